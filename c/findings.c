@@ -142,6 +142,13 @@ static void categories(void) {
                                 0, 2, true);
 }
 
+/* A variant that opens more placeables than the limit is found by its key. */
+static void tried(void) {
+    expect_also_refused_in_turn(call_of("", "a = { $n ->\n    [one] { b }{ b }{ b }{ b }{ b }{ b }{ b }{ b }{ b }{ b }\n   *[other] O\n }\n"
+                                            "b = { $x }{ $x }{ $x }{ $x }{ $x }{ $x }{ $x }{ $x }{ $x }{ $x }\n"),
+                                "x.ftl:1:1: error: 'a' can open 111 placeables, and no more than 100 are opened\n", 1, 0, false);
+}
+
 static void expect_status(struct call call, uint8_t status) {
     uint8_t *out = fenced_room(text_fence, ROOM);
     check(make(&call, out, ROOM) == status, "another status");
@@ -178,6 +185,7 @@ int main(void) {
     run("several sources", several);
     run("a translation", translated);
     run("plural categories", categories);
+    run("keys that are tried", tried);
     run("what is refused", refused);
     return finish();
 }

@@ -11,14 +11,12 @@ ghost use Rattle.fluent_bundle_entries.specs.ErrorView.{error_view};
 ghost use Rattle.fluent_bundle.specs.Inside.AddAnswers.{answer_of};
 
 use crate::resource::FluentResource;
+use fluent_bundle_entries::{Entry, FluentError, FluentMessage, FunctionRef, GetEntry, Ids};
 use fluent_intl::{EnglishPlurals, LanguageIdentifier, MemoizerKind};
 use fluent_resolver::Means;
 use fluent_syntax::ast;
 use fluent_values::types::FluentType;
-use fluent_values::{
-    Context, Entry, FluentError, FluentFormatter, FluentFunction, FluentMessage, FunctionRef,
-    GetEntry, Ids, Transform,
-};
+use fluent_values::{Context, FluentFormatter, FluentFunction, Transform};
 use std::alloc::{AllocError, Global};
 use std::borrow::CowStr;
 use std::marker::PhantomData;

@@ -11,12 +11,13 @@ ghost use Rattle.fluent_bundle.specs.Inside.Asked.{pattern_asked};
 
 use crate::bundle::FluentBundle;
 use crate::laws;
+use fluent_bundle_entries::FluentError;
 use fluent_intl::MemoizerKind;
 use fluent_resolver::{Found, Means, Target, found};
 use fluent_syntax::ast::Identifier;
 use fluent_syntax::{Counting, WriteFault};
 use fluent_values::types::FluentType;
-use fluent_values::{Context, FluentArgs, FluentError, FluentFormatter, FluentFunction, Transform};
+use fluent_values::{Context, FluentArgs, FluentFormatter, FluentFunction, Transform};
 use std::alloc::AllocError;
 use std::borrow::CowStr;
 use std::io::Write;
@@ -144,6 +145,7 @@ impl<
     }
 
     /// Writes what is asked for by id, and says whether it is there.
+    #[inline(always)]
     fn write_asked<W: Write>(
         &self,
         w: &mut Counting<W>,

@@ -18,6 +18,7 @@ ghost use Rattle.fluent_bundle.specs.Inside.Unchanged.{unchanged_text, untransfo
 use crate::bundle::FluentBundle;
 use crate::laws;
 use crate::resolver::answers::formatted;
+use fluent_bundle_entries::FluentError;
 use fluent_intl::MemoizerKind;
 use fluent_resolver::output::through;
 use fluent_resolver::texts::{is_text, only_text, put_texts};
@@ -26,7 +27,7 @@ use fluent_syntax::ast::Pattern;
 use fluent_syntax::{Counting, WriteFault, put};
 use fluent_values::output::{Halt, Output, with_error};
 use fluent_values::types::{FluentType, FluentValue};
-use fluent_values::{Context, FluentArgs, FluentError, FluentFormatter, FluentFunction, Transform};
+use fluent_values::{Context, FluentArgs, FluentFormatter, FluentFunction, Transform};
 use std::alloc::AllocError;
 use std::borrow::CowStr;
 use std::io::Write;
@@ -117,6 +118,7 @@ impl<
     }
 
     /// Writes a pattern whose references go by their links, or by name where there are none.
+    #[inline(always)]
     pub(crate) fn write_linked<W: Write>(
         &self,
         w: &mut Counting<W>,

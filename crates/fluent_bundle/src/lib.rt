@@ -14,17 +14,19 @@ mod resource;
 
 pub use bundle::{AddFault, FluentBundle};
 pub use calls::Call;
+pub use fluent_bundle_entries::{
+    Attributes, Entry, EntryKind, FluentAttribute, FluentError, FluentMessage, FunctionRef,
+    GetEntry, Ids, ReferenceKind,
+};
 pub use fluent_intl::{
     EnglishPlurals, LanguageIdentifier, MemoizerKind, NotANumber, OutOfRange, PluralCategory,
     PluralOperands, PluralRuleType,
 };
 pub use fluent_syntax::{Counting, ParserError, WriteFault, ast};
 pub use fluent_values::{
-    AnswerRule, Answering, ArgsIntoIter, ArgsIter, Attributes, Entry, EntryKind, FluentArgs,
-    FluentAttribute, FluentError, FluentFormatter, FluentFunction, FluentMessage, FluentNumber,
-    FluentNumberOptions, FluentType, FluentValue, FunctionOf, FunctionRef, GetEntry, Ids,
-    MergeArgs, NoCustom, NoFormatter, NoFunction, NoTransform, ReferenceKind, Transform, builtins,
-    memoizer, types,
+    AnswerRule, Answering, ArgsIntoIter, ArgsIter, FluentArgs, FluentFormatter, FluentFunction,
+    FluentNumber, FluentNumberOptions, FluentType, FluentValue, FunctionOf, MergeArgs, NoCustom,
+    NoFormatter, NoFunction, NoTransform, Transform, builtins, memoizer, types,
 };
 pub use messages::{FormattedAttribute, FormattedMessage};
 pub use resolver::{Context, Means, ResolverError, Scope, category_word};

@@ -9,13 +9,12 @@ ghost use Rattle.fluent_bundle.specs.BundleView.{message_at};
 ghost use Rattle.fluent_bundle.specs.Formatted.{Adds, AddsSome, ShowsMessage, attribute_errors, attribute_shown, attribute_texts, message_errors, message_shown, message_text, value_errors, value_text, wrong_with};
 
 use crate::bundle::FluentBundle;
+use fluent_bundle_entries::{FluentError, GetEntry};
 use fluent_intl::MemoizerKind;
 use fluent_resolver::Means;
 use fluent_syntax::ast;
 use fluent_values::types::FluentType;
-use fluent_values::{
-    Context, FluentArgs, FluentError, FluentFormatter, FluentFunction, GetEntry, Transform,
-};
+use fluent_values::{Context, FluentArgs, FluentFormatter, FluentFunction, Transform};
 use std::alloc::AllocError;
 use std::borrow::CowStr;
 

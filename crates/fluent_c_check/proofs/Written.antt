@@ -3,10 +3,10 @@ use Rattle.std.proofs.Common.{◌≡◌, ◌∙◌, ℕ, Bool, true, false, List
 use Rattle.std.proofs.lemmas.List.{append-nil}
 use Rattle.std.specs.Borrow.{Bor}
 use Rattle.fluent_ast.specs.Tree.{Text}
+use Rattle.fluent_patterns.specs.Found.{found_view}
+use Rattle.fluent_patterns.specs.declared.finding.Finding.{Finding}
 use Rattle.fluent_check.specs.Files.{Read}
-use Rattle.fluent_check.specs.Found.{found_view}
 use Rattle.fluent_check.specs.declared.checking.Found.{Found}
-use Rattle.fluent_check.specs.declared.finding.Finding.{Finding}
 use Rattle.fluent_cli_report.specs.Json.{json_report}
 use Rattle.fluent_cli_report.specs.Report.{report, text_report}
 use Rattle.fluent_cli_report.specs.Reported.{Manner, Reports, folds, manner_of, whole_report}

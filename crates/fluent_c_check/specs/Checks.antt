@@ -8,9 +8,9 @@ use Rattle.fluent_syntax.specs.Chunks.{entries}
 use Rattle.fluent_answers.specs.Records.{Record, Are, NotRead}
 use Rattle.fluent_answers.specs.declared.fault.Fault.{Fault}
 use Rattle.fluent_answers.specs.declared.fault.Fault.TheVariants as read_fault
+use Rattle.fluent_patterns.specs.Found.{found_in}
 use Rattle.fluent_check.specs.Faultless.{AreFaultless, tag_of}
 use Rattle.fluent_check.specs.Files.{Read}
-use Rattle.fluent_check.specs.Found.{found_in}
 use Rattle.fluent_check.specs.Groups.{Group}
 use Rattle.fluent_check.specs.Looks.{IsFound}
 use Rattle.fluent_check.specs.ReadFiles.{files_of}
@@ -19,7 +19,7 @@ use Rattle.fluent_check.specs.declared.checking.Grouping.TheVariants.{Together}
 use Rattle.fluent_check.specs.declared.checking.Settings.{Settings}
 use Rattle.fluent_cli_report.specs.Json.{json_report}
 use Rattle.fluent_cli_report.specs.Rows.{Row, errors_in, line_text, rows_of, warnings_in}
-use Rattle.fluent_lint.specs.Asked.{texts}
+use Rattle.fluent_places.specs.Asked.{texts}
 use Rattle.fluent_c_handles.specs.Answers.{Given}
 use Rattle.fluent_c_check.specs.declared.check.Checked.{Checked}
 use Rattle.fluent_c_check.specs.declared.handed.CheckFault.{CheckFault}

@@ -2,7 +2,7 @@
 ghost use Rattle.std.specs.Prelude.{◌≡◌, IfOk, map};
 ghost use Rattle.fluent_answers.specs.ArgumentView.{argument_view};
 ghost use Rattle.fluent_check.specs.Reading.{AreRead, read_view};
-ghost use Rattle.fluent_lint.specs.Asked.{texts};
+ghost use Rattle.fluent_places.specs.Asked.{texts};
 ghost use Rattle.fluent_c_check.specs.Checks.{names_of, reads_of};
 ghost use Rattle.fluent_c_check.specs.Inside.Handed.{AreReadFrom, FindsIn, IsLanguage, texts_in};
 

@@ -1,7 +1,7 @@
 //! The variables that a message asks for, a line each.
 ghost use Rattle.std.specs.Prelude.{IfOk, string_bytes};
-ghost use Rattle.fluent_lint.specs.Asked.{texts};
-ghost use Rattle.fluent_lint.specs.Clean.{names_of, place_view};
+ghost use Rattle.fluent_places.specs.Asked.{texts};
+ghost use Rattle.fluent_places.specs.Clean.{names_of, place_view};
 ghost use Rattle.fluent_c_handles.specs.Answers.{stock_content, unanswered};
 ghost use Rattle.fluent_c_handles.specs.Calls.Finding.{ListsAsked, Rise};
 ghost use Rattle.fluent_c_handles.specs.Inside.Gathered.{HaveSame, texts_of};

@@ -10,7 +10,7 @@ use Rattle.fluent_bundle.specs.BundleView.{entries_of, source_in}
 use Rattle.fluent_bundle.specs.declared.resource.FluentResource.{FluentResource}
 use Rattle.fluent_check.specs.Languages.{adding_all}
 use Rattle.fluent_check.specs.Linted.{places_of}
-use Rattle.fluent_lint.specs.Clean.{places_in}
+use Rattle.fluent_places.specs.Clean.{places_in}
 use Rattle.fluent_ast.specs.declared.errors.ParserError.{ParserError}
 use Rattle.fluent_syntax.specs.Parsed.{error_range}
 use Rattle.fluent_check.specs.ReadFiles.{ReadFile, entries_in, file_view, file_with, files_with, ranges_of}

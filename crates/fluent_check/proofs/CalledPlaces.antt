@@ -5,8 +5,10 @@ use Rattle.fluent_ast.specs.Tree.{Text, Entry}
 use Rattle.fluent_semantics.specs.Bundle.{Bundle}
 use Rattle.fluent_bundle.specs.BundleView.{entries_of, source_in}
 use Rattle.fluent_bundle.specs.declared.resource.FluentResource.{FluentResource}
-use Rattle.fluent_lint.specs.Clean as entries
-use Rattle.fluent_lint.specs.Clean.{Place, Names, names_of}
+use Rattle.fluent_places.specs.Clean as entries
+use Rattle.fluent_places.specs.Clean.{Place, Names, names_of}
+use Rattle.fluent_patterns.specs.Marks.{marks}
+use Rattle.fluent_patterns.specs.declared.marks.Mark.{Mark}
 use Rattle.fluent_check.specs.Among.{is_at}
 use Rattle.fluent_check.specs.Called.{with_functions}
 use Rattle.fluent_check.specs.Faultless.{AreFaultless, called_by}
@@ -14,13 +16,11 @@ use Rattle.fluent_check.specs.Inside.Faultless.{AreFaultlessFiles, calling}
 use Rattle.fluent_check.specs.Languages.{all_of}
 use Rattle.fluent_check.specs.Linted as linted
 use Rattle.fluent_check.specs.Linted.{NoneFails}
-use Rattle.fluent_check.specs.Marks.{marks}
 use Rattle.fluent_check.specs.Patterns.{called_at, called_in}
 use Rattle.fluent_check.specs.Places.{first_places, place_of, places_of, stands}
 use Rattle.fluent_check.specs.ReadFiles.{ReadFile, entries_in, file_with, files_with}
 use Rattle.fluent_check.specs.Sites.{Site, offset_or, own_len, sites_at, sites_from, sites_of, start_of}
 use Rattle.fluent_check.specs.Standing.{Standing, standings_in, standings_of}
-use Rattle.fluent_check.specs.declared.marks.Mark.{Mark}
 use Rattle.fluent_check.proofs.Added.{standings_both}
 
 -- ---- by places

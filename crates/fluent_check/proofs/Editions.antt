@@ -4,17 +4,18 @@ use Rattle.std.specs.List.{AllByRecursion, slice_get}
 use Rattle.std.specs.Option.{option_map}
 use Rattle.fluent_ast.specs.Tree.{Text}
 use Rattle.fluent_bundle.specs.declared.bundle.FluentBundle.{FluentBundle}
-use Rattle.fluent_lint.specs.Asked.{AreAskedIn, IsAskedIn, list_of, texts}
-use Rattle.fluent_lint.specs.Clean.{Place, Names, names_of}
-use Rattle.fluent_lint.specs.declared.asked.Asked.{Asked}
+use Rattle.fluent_places.specs.Asked.{AreAskedIn, IsAskedIn, list_of, texts}
+use Rattle.fluent_places.specs.Clean.{Place, Names, names_of}
+use Rattle.fluent_places.specs.declared.asked.Asked.{Asked}
 use Rattle.fluent_plural_rules.specs.declared.rule_texts.RuleTexts.{RuleTexts}
 use Rattle.fluent_values.specs.declared.formatter.NoFormatter.{NoFormatter}
 use Rattle.fluent_values.specs.declared.function.NoFunction.{NoFunction}
 use Rattle.fluent_values.specs.declared.transform.NoTransform.{NoTransform}
 use Rattle.fluent_values.specs.declared.types.custom.NoCustom.{NoCustom}
+use Rattle.fluent_patterns.specs.Found.{Found, found_in}
+use Rattle.fluent_patterns.specs.declared.finding.Finding.{Finding}
 use Rattle.fluent_check.specs.Bundles.{bundle_view}
 use Rattle.fluent_check.specs.Differences.{AreAllDifferences, AreAskedBy, AreDifferencesBy, Edition, IsAskedBy, all_differences, edition_of, edition_view, reference_names, reference_places}
-use Rattle.fluent_check.specs.Found.{Found, found_in}
 use Rattle.fluent_check.specs.Groups.{Group}
 use Rattle.fluent_check.specs.Inside.Editions.{IsEdition}
 use Rattle.fluent_check.specs.Inside.Looks.{AddsAllDifferences, AddsDifferences}
@@ -22,7 +23,6 @@ use Rattle.fluent_check.specs.Places.{keys_of, place_of}
 use Rattle.fluent_check.specs.ReadFiles.{ReadFile, file_view}
 use Rattle.fluent_check.specs.Standing.{Standing, standings}
 use Rattle.fluent_check.specs.declared.files.Read.{Read}
-use Rattle.fluent_check.specs.declared.finding.Finding.{Finding}
 use Rattle.fluent_check.specs.declared.places.Places.{Places}
 use Rattle.fluent_check.specs.declared.referred.Edition as code
 

@@ -4,10 +4,10 @@ use Rattle.std.proofs.lemmas.List.{append_assoc, append-nil, length-drop, drop-d
 use Rattle.fluent_ast.specs.Tree.{Text}
 use Rattle.fluent_ast.specs.View.{entry_view}
 use Rattle.fluent_ast.specs.declared.ast.Entry.{Entry}
-use Rattle.fluent_lint.specs.Clean.{Place, places_of, places_in}
-use Rattle.fluent_check.specs.Marks.{marks}
+use Rattle.fluent_places.specs.Clean.{Place, places_of, places_in}
+use Rattle.fluent_patterns.specs.Marks.{marks}
+use Rattle.fluent_patterns.specs.declared.marks.Mark.{Mark}
 use Rattle.fluent_check.specs.Sites.{Site, sites_at, sites_from, start_of}
-use Rattle.fluent_check.specs.declared.marks.Mark.{Mark}
 
 start-drop : (source : Text) (starts : List ℕ) (i : ℕ) → start_of source (drop i starts) ≡ get_or starts i (length source)
 start-drop source starts i = get_or-drop i starts 0 (length source) ∙ ap (λ n. get_or starts n (length source)) (add-zero i)

@@ -5,13 +5,13 @@ use Rattle.std.specs.Str.{bytes_eq}
 use Rattle.std.proofs.lemmas.List.{append_assoc, append-nil, drop_more, drop_all, map-append, take_more}
 use Rattle.std.proofs.lemmas.Slice.Eq.{bytes_eq-Decides}
 use Rattle.indexmap.specs.IndexMap.{IndexMap}
+use Rattle.fluent_patterns.specs.Found.{Found, found_view}
+use Rattle.fluent_patterns.specs.declared.finding.Finding.{Finding}
 use Rattle.fluent_check.specs.Causes.{Cause, Folded, cause_of, count_of, folded_from, folded_views, one_if, same_cause, told_at, told_by}
-use Rattle.fluent_check.specs.Found.{Found, found_view}
 use Rattle.fluent_check.specs.Inside.Causes.{AreCounts, Counts, Tells, cause_view, number_in, number_or_0}
 use Rattle.fluent_check.specs.contracts.causes.CausePartialEq.TheImpl.{eq-value}
 use Rattle.fluent_check.specs.declared.causes.Cause as code
 use Rattle.fluent_check.specs.declared.causes.Folded as code_folded
-use Rattle.fluent_check.specs.declared.finding.Finding.{Finding}
 
 -- ---- causes of the code
 

@@ -5,12 +5,12 @@ use Rattle.std.specs.List.{AllByRecursion, cons_option, filter_map, list_any}
 use Rattle.std.specs.Option.{option_map}
 use Rattle.fluent_ast.specs.Tree.{Text}
 use Rattle.fluent_semantics.specs.Bundle.{Bundle, Target, unknown, without_value, found}
-use Rattle.fluent_lint.specs.Clean.{Place, names_of, place_target, place_view}
-use Rattle.fluent_lint.specs.PlaceView.{pattern_in}
-use Rattle.fluent_lint.specs.declared.finding.Finding.{Finding}
-use Rattle.fluent_lint.specs.declared.finding.Kind.{Kind}
-use Rattle.fluent_lint.specs.declared.finding.Kind.TheVariants as kind
-use Rattle.fluent_check.specs.Found.{Problem}
+use Rattle.fluent_places.specs.Clean.{Place, names_of, place_target, place_view}
+use Rattle.fluent_places.specs.PlaceView.{pattern_in}
+use Rattle.fluent_places.specs.declared.finding.Finding.{Finding}
+use Rattle.fluent_places.specs.declared.finding.Kind.{Kind}
+use Rattle.fluent_places.specs.declared.finding.Kind.TheVariants as kind
+use Rattle.fluent_patterns.specs.Found.{Problem}
 use Rattle.fluent_check.specs.Linted.{IsShownIfLarge, LargeErrorsAreShown}
 use Rattle.fluent_check.specs.Tried.{ReachesLimit, is_shown, is_shown_of, reaches_limit, tried_arguments}
 use Rattle.fluent_check.specs.Whole.{all_lead_on, if_alone, large_problem, whole_of, whole_problem}

@@ -4,11 +4,14 @@ use Rattle.std.specs.List.{AllByRecursion}
 use Rattle.std.proofs.lemmas.List.{append_assoc, append-nil, at_drop_more, length-map, length-take-le, map-append}
 use Rattle.fluent_ast.specs.Tree.{Text}
 use Rattle.fluent_semantics.specs.Bundle.{Bundle}
-use Rattle.fluent_lint.specs.Asked.{texts}
-use Rattle.fluent_lint.specs.Clean.{Place, Names, names_of}
-use Rattle.fluent_check.specs.Categories.{Categories}
+use Rattle.fluent_places.specs.Asked.{texts}
+use Rattle.fluent_places.specs.Clean.{Place, Names, names_of}
+use Rattle.fluent_patterns.specs.Categories.{Categories}
+use Rattle.fluent_patterns.specs.Found.{Found, found_in}
+use Rattle.fluent_patterns.specs.Terms.{TellsAskedAt}
+use Rattle.fluent_patterns.specs.Found as found
+use Rattle.fluent_patterns.specs.declared.finding.Finding.{Finding}
 use Rattle.fluent_check.specs.Differences.{reference_names}
-use Rattle.fluent_check.specs.Found.{Found, found_in}
 use Rattle.fluent_check.specs.Groups.{Group, groups_from, of_file}
 use Rattle.fluent_check.specs.Inside.Looks.{AddsDifferences, AddsLinted, AddsLooks, AddsPatterns}
 use Rattle.fluent_check.specs.Linted.{is_none}
@@ -17,13 +20,10 @@ use Rattle.fluent_check.specs.Patterns.{found_in_patterns, found_selects}
 use Rattle.fluent_check.specs.Places.{place_of}
 use Rattle.fluent_check.specs.ReadFiles.{ReadFile}
 use Rattle.fluent_check.specs.Standing.{Standing}
-use Rattle.fluent_check.specs.Terms.{TellsAskedAt}
 use Rattle.fluent_check.specs.Whole.{found_whole, found_wholes, whole_if, whole_view, wholes}
 use Rattle.fluent_check.specs.declared.whole.Whole.{Whole}
-use Rattle.fluent_check.specs.Found as found
 use Rattle.fluent_check.specs.declared.checking.Grouping.{Grouping}
 use Rattle.fluent_check.specs.declared.checking.Settings.{Settings}
-use Rattle.fluent_check.specs.declared.finding.Finding.{Finding}
 use Rattle.fluent_check.proofs.Chained.{two}
 
 -- ---- patterns

@@ -13,13 +13,13 @@ use Rattle.std.proofs.lemmas.Slice.Eq.{bytes_eq-Decides}
 use Rattle.indexmap.specs.IndexSet.{IndexSet, insert_key}
 use Rattle.fluent_ast.specs.Tree.{Text}
 use Rattle.fluent_semantics.specs.Number.{is_text}
-use Rattle.fluent_lint.specs.Asked.{texts}
-use Rattle.fluent_lint.specs.Clean.{Place, Need, a_message, a_term, a_function, a_variable, a_default, of_term}
-use Rattle.fluent_lint.specs.NeedsView.{need_view}
-use Rattle.fluent_lint.specs.declared.listing.Need as code
+use Rattle.fluent_places.specs.Asked.{texts}
+use Rattle.fluent_places.specs.Clean.{Place, Need, a_message, a_term, a_function, a_variable, a_default, of_term}
+use Rattle.fluent_places.specs.NeedsView.{need_view}
+use Rattle.fluent_places.specs.declared.listing.Need as code
+use Rattle.fluent_patterns.specs.Found.{Flaw, whole, term_left_out, function_left_out}
 use Rattle.fluent_check.specs.Among.{is_at, is_in}
 use Rattle.fluent_check.specs.Compared.{is_reference, Rule, Told, told_unless, is_number, of_terms_left_out, of_functions_left_out, told_from, firsts, flaws_by}
-use Rattle.fluent_check.specs.Found.{Flaw, whole, term_left_out, function_left_out}
 use Rattle.fluent_check.specs.Inside.Names.{HasMore, HasNames, names_if}
 
 -- ---- those so far, with one more

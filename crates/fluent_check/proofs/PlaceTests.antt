@@ -4,8 +4,8 @@ use Rattle.std.proofs.Common.{◌≡◌, ◌∙◌, ◌&&◌, ◌||◌, Bool, tr
 use Rattle.std.specs.List.{list_any}
 use Rattle.std.proofs.lemmas.Slice.Eq.{bytes_eq-Decides}
 use Rattle.fluent_ast.specs.Tree.{Attribute, no_attribute, attribute, is_yes}
-use Rattle.fluent_lint.specs.Clean.{Place, of_message, of_term, place_same, place_view, views}
-use Rattle.fluent_lint.specs.declared.place.Place as code
+use Rattle.fluent_places.specs.Clean.{Place, of_message, of_term, place_same, place_view, views}
+use Rattle.fluent_places.specs.declared.place.Place as code
 use Rattle.fluent_check.specs.Among.{same_attribute, same_place, is_at}
 
 and_both : (a b : Bool) → a ≡ true → b ≡ true → (a && b) ≡ true

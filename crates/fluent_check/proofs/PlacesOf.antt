@@ -8,8 +8,8 @@ use Rattle.std.specs.Borrow.{Bor}
 use Rattle.std.specs.Slice.{IsItemAt}
 use Rattle.indexmap.specs.IndexSet.{insert_key}
 use Rattle.fluent_ast.specs.Tree.{Text, is_yes}
-use Rattle.fluent_lint.specs.Clean.{Place, Names, place_same, place_view, views}
-use Rattle.fluent_lint.specs.declared.place.Place as code_place
+use Rattle.fluent_places.specs.Clean.{Place, Names, place_same, place_view, views}
+use Rattle.fluent_places.specs.declared.place.Place as code_place
 use Rattle.fluent_check.specs.Among.{is_at, same_place}
 use Rattle.fluent_check.specs.Places.{first_at, first_places, place_of, places_of, stands}
 use Rattle.fluent_check.specs.Standing.{Standing, standing_view}

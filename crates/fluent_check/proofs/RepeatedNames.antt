@@ -5,10 +5,10 @@ use Rattle.std.specs.List.{list_any}
 use Rattle.std.specs.Prelude.{bytes_eq}
 use Rattle.std.proofs.lemmas.List.{append_assoc}
 use Rattle.indexmap.specs.IndexSet.{insert_key}
-use Rattle.fluent_lint.specs.Asked.{texts}
+use Rattle.fluent_places.specs.Asked.{texts}
+use Rattle.fluent_patterns.specs.Found.{Found, whole, repeated_attribute}
 use Rattle.fluent_check.proofs.Inserted.{any_of_texts, inserted}
 use Rattle.fluent_ast.specs.Tree.{Text}
-use Rattle.fluent_check.specs.Found.{Found, whole, repeated_attribute}
 use Rattle.fluent_check.specs.Repeated.{attribute_in, is_among, names_with, repeated_at, repeated_attributes}
 use Rattle.fluent_check.specs.Standing.{Standing, found_at}
 

@@ -1,7 +1,7 @@
 -- Marks, a byte further.
 use Rattle.std.proofs.Common.{◌≡◌, ◌⊎◌, inl, inr, ◌+◌, ◌<◌, ◌≤◌, ℕ, zero, suc, List, [], ◌∷◌, length, get_or, take, arith, refl, sym, ap, ◌∙◌}
 use Rattle.fluent_ast.specs.Tree.{Text}
-use Rattle.fluent_lint.specs.Facts.LinesOn.{feed_line, feed_column, same_line, next_column, same_column}
+use Rattle.fluent_places.specs.Facts.LinesOn.{feed_line, feed_column, same_line, next_column, same_column}
 use Rattle.fluent_check.specs.LineMarks.{IsMark}
 use Rattle.fluent_check.specs.declared.lines.Mark.{Mark}
 

@@ -6,10 +6,10 @@ use Rattle.std.specs.Option.{option_map}
 use Rattle.std.specs.Prelude.{bytes_eq}
 use Rattle.indexmap.specs.IndexMap.{insert_entry}
 use Rattle.fluent_ast.specs.Tree.{Text}
-use Rattle.fluent_check.specs.Found.{Found, Spot, spot_view, whole, taken_id}
+use Rattle.fluent_patterns.specs.Found.{Found, Spot, spot_view, whole, taken_id}
+use Rattle.fluent_patterns.specs.declared.finding.Spot as code
 use Rattle.fluent_check.specs.Standing.{Standing, found_at, spot_of}
 use Rattle.fluent_check.specs.Taken.{Firsts, first_of, firsts_with, id_in, noted, taken, taken_at, taken_if}
-use Rattle.fluent_check.specs.declared.finding.Spot as code
 
 mapped_if : (b : Bool) (x : code.Spot) (o : Option code.Spot) → option_map spot_view (cond b (Some x) o) ≡ cond b (Some (spot_view x)) (option_map spot_view o)
 mapped_if true x o = refl

@@ -6,8 +6,9 @@ use Rattle.fluent_ast.specs.Tree.{Text, Pattern}
 use Rattle.fluent_semantics.specs.Arguments.{Map}
 use Rattle.fluent_semantics.specs.Bundle.{Bundle}
 use Rattle.fluent_semantics.specs.Value.{Value}
-use Rattle.fluent_check.specs.Tried.{choice_view, choices, choices_in, given, reaches_limit, tried_arguments}
-use Rattle.fluent_check.specs.declared.choices.Choice.{Choice}
+use Rattle.fluent_patterns.specs.Choices.{choice_view, choices, choices_in}
+use Rattle.fluent_patterns.specs.declared.choices.Choice.{Choice}
+use Rattle.fluent_check.specs.Tried.{given, reaches_limit, tried_arguments}
 
 pub shown_by_choices : (b : Bundle Text) (p : Pattern) (args : Map (Value Text)) (first : Bool) (list slice some : List Choice) → args ≡ [] → first ≡ reaches_limit b p args → first ≡ false
     → choices_in list ≡ choices p → slice ≡ list → some ≡ take 32 slice

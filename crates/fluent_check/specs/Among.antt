@@ -3,7 +3,7 @@ use Rattle.std.specs.Prelude.{◌&&◌, Bool, true, false, List}
 use Rattle.std.specs.List.{list_any}
 use Rattle.fluent_ast.specs.Tree.{Text, Attribute, no_attribute, attribute}
 use Rattle.fluent_semantics.specs.Number.{is_text}
-use Rattle.fluent_lint.specs.Clean.{Place, of_message, of_term}
+use Rattle.fluent_places.specs.Clean.{Place, of_message, of_term}
 
 abbrev pub is_in : Text → List Text → Bool
 is_in v vs = list_any (is_text v) vs

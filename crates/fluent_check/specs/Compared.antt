@@ -4,14 +4,14 @@ use Rattle.std.specs.List.{filter_map}
 use Rattle.fluent_ast.specs.Tree.{Text, Pattern}
 use Rattle.fluent_ast.specs.View.{pattern_view}
 use Rattle.fluent_semantics.specs.Number.{is_text}
-use Rattle.fluent_lint.specs.Asked.{texts}
-use Rattle.fluent_lint.specs.Clean.{Place, of_term, Need, a_message, a_term, a_function, a_variable, a_default, needs}
+use Rattle.fluent_places.specs.Asked.{texts}
+use Rattle.fluent_places.specs.Clean.{Place, of_term, Need, a_message, a_term, a_function, a_variable, a_default, needs}
+use Rattle.fluent_patterns.specs.Found.{unknown_variable, variable_left_out, term_left_out, function_left_out, Flaw, whole, the_reference, flaw_view}
+use Rattle.fluent_patterns.specs.Names.{once}
+use Rattle.fluent_patterns.specs.Shown.{shown}
+use Rattle.fluent_patterns.specs.declared.shown.Wanted.TheVariants.{Variables, Functions}
 use Rattle.fluent_check.specs.Among.{is_at, is_in}
-use Rattle.fluent_check.specs.Found.{unknown_variable, variable_left_out, term_left_out, function_left_out, Flaw, whole, the_reference, flaw_view}
-use Rattle.fluent_check.specs.Names.{once}
-use Rattle.fluent_check.specs.Shown.{shown}
 use Rattle.fluent_check.specs.declared.rules.Told as code_told
-use Rattle.fluent_check.specs.declared.shown.Wanted.TheVariants.{Variables, Functions}
 use Rattle.fluent_check.specs.declared.compared.Wording as code
 
 -- ---- what patterns refer to

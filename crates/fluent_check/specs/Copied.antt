@@ -1,9 +1,9 @@
 -- Texts that are word for word those of the reference.
 use Rattle.std.specs.Prelude.{Bool, true, false, Option, Some, None}
 use Rattle.fluent_ast.specs.Tree.{Text, Pattern, is_yes, pattern_same}
-use Rattle.fluent_lint.specs.Clean.{Place, Names, place_target}
-use Rattle.fluent_lint.specs.PlaceView.{pattern_in}
-use Rattle.fluent_check.specs.Categories.{Categories, no_categories}
+use Rattle.fluent_places.specs.Clean.{Place, Names, place_target}
+use Rattle.fluent_places.specs.PlaceView.{pattern_in}
+use Rattle.fluent_patterns.specs.Categories.{Categories, no_categories}
 
 abbrev pub is_same : Option Pattern → Option Pattern → Bool
 is_same None other = false

@@ -1,6 +1,6 @@
 -- What can't be read in files, and which ids can't be had, each file for itself.
 use Rattle.std.specs.Prelude.{List, [], ◌∷◌, ◌++◌}
-use Rattle.fluent_check.specs.Found.{Found}
+use Rattle.fluent_patterns.specs.Found.{Found}
 use Rattle.fluent_check.specs.ReadFiles.{ReadFile}
 use Rattle.fluent_check.specs.Repeated.{function_ids}
 use Rattle.fluent_check.specs.Standing.{standings_in}

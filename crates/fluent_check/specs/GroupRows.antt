@@ -3,9 +3,9 @@ use Rattle.std.specs.Prelude.{◌≡◌, ℕ, List, [], ◌∷◌, map, Some, No
 use Prim.Native.String.{String}
 use Rattle.fluent_ast.specs.Tree.{Text, no_attribute, attribute, Pattern}
 use Rattle.fluent_semantics.specs.Bundle.{a_message}
-use Rattle.fluent_lint.specs.Clean.{Place, of_message, of_term, Names}
+use Rattle.fluent_places.specs.Clean.{Place, of_message, of_term, Names}
+use Rattle.fluent_patterns.specs.Found.{Problem, whole, taken_id, function_id, repeated_attribute}
 use Rattle.fluent_check.specs.Differences.{Edition, all_here}
-use Rattle.fluent_check.specs.Found.{Problem, whole, taken_id, function_id, repeated_attribute}
 use Rattle.fluent_check.specs.Groups.{Group, groups_of}
 use Rattle.fluent_check.specs.Places.{first_at, places_of}
 use Rattle.fluent_check.specs.ReadFiles.{ReadFile}

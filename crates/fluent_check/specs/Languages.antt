@@ -1,41 +1,12 @@
--- The plural rules of a language, and bundles of files in it.
--- `rules_of cldr_plurals tag` are the texts of the CLDR's plural rules for a tag; `rules`, the plural rules that a text has, and `category_of`, the
--- category that they give a number.
-use Rattle.std.specs.Prelude.{◌≡◌, ℕ, Bool, true, List, [], ◌∷◌, map, Option, Some, None, Result, Ok, Err, codes}
+-- Bundles of files in a language.
+-- `language_rules tag` are the plural rules of the CLDR for a tag; `category_of`, the category that they give a number.
+use Rattle.std.specs.Prelude.{◌≡◌, true, List, [], map}
 use Rattle.fluent_ast.specs.Tree.{Text, Entry}
-use Rattle.fluent_plural_rules.specs.Languages.{Texts, rules_of}
-use Rattle.fluent_plural_rules.specs.LanguageTable.{cldr_plurals}
-use Rattle.fluent_plural_rules.specs.RuleTree.{Rule, Rules}
-use Rattle.fluent_plural_rules.specs.RuleGrammar.{rules}
 use Rattle.fluent_plural_rules.specs.RuleTexts.{category_of}
 use Rattle.fluent_semantics.specs.Value.{Custom}
 use Rattle.fluent_semantics.specs.Bundle.{Bundle, empty_bundle, after, after_all, add_resource, add_builtins}
+use Rattle.fluent_patterns.specs.Languages.{language_rules}
 use Rattle.fluent_check.specs.Called.{with_functions}
-
--- ---- the plural rules of a language
-
--- what was read, or none
-abbrev pub or_none : Result (List Rule) ℕ → List Rule
-or_none (Ok list) = list
-or_none (Err at) = []
-
--- the rules that a text has
-abbrev pub rules_in : Text → List Rule
-rules_in text = or_none (rules text)
-
--- the texts of a language, empty where there are none
-abbrev pub texts_or_none : Option Texts → Texts
-texts_or_none None = record { cardinal = []; ordinal = [] }
-texts_or_none (Some texts) = texts
-
-abbrev pub rules_by : Texts → Rules
-rules_by texts = record { cardinal = rules_in texts.cardinal; ordinal = rules_in texts.ordinal }
-
--- the CLDR's, by the language's tag
-abbrev pub language_rules : Text → Rules
-language_rules tag = rules_by (texts_or_none (rules_of cldr_plurals tag))
-
--- ---- bundles of files, by a language's tag and the entries of each
 
 -- no values and functions of an application, no formatter, no transform
 abbrev pub no_custom : Custom Text

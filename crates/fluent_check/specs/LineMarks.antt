@@ -1,7 +1,7 @@
 -- Bytes of a text with their lines and columns.
 use Rattle.std.specs.Prelude.{◌≡◌, ◌+◌, ◌≤◌, length, take}
 use Rattle.fluent_ast.specs.Tree.{Text}
-use Rattle.fluent_lint.specs.Columns.{column_after, line_after}
+use Rattle.fluent_places.specs.Columns.{column_after, line_after}
 use Rattle.fluent_check.specs.declared.lines.Mark.{Mark}
 
 -- a mark stands in a text, and its line and its column are those of its byte

@@ -1,8 +1,8 @@
 -- The values and attributes of files, and the variables that each asks for.
 use Rattle.std.specs.Prelude.{◌≡◌, List, map, codes}
 use Rattle.fluent_ast.specs.Tree.{Text}
-use Rattle.fluent_lint.specs.Asked.{AreAskedIn}
-use Rattle.fluent_lint.specs.Clean.{Place, Names, names_of, views}
+use Rattle.fluent_places.specs.Asked.{AreAskedIn}
+use Rattle.fluent_places.specs.Clean.{Place, Names, names_of, views}
 use Rattle.fluent_check.specs.Languages.{all_of}
 use Rattle.fluent_check.specs.Places.{place_of, places_of}
 use Rattle.fluent_check.specs.ReadFiles.{ReadFile, entries_in}

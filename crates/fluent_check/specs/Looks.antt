@@ -4,15 +4,16 @@ use Rattle.std.specs.Borrow.{Bor}
 use Rattle.std.specs.List.{AllByRecursion}
 use Rattle.fluent_ast.specs.Tree.{Text}
 use Rattle.fluent_semantics.specs.Bundle.{Bundle}
-use Rattle.fluent_lint.specs.Asked.{texts}
-use Rattle.fluent_lint.specs.Clean.{Place, Names, names_of}
-use Rattle.fluent_lint.specs.declared.finding.Finding as lint
+use Rattle.fluent_places.specs.Asked.{texts}
+use Rattle.fluent_places.specs.Clean.{Place, Names, names_of}
+use Rattle.fluent_places.specs.declared.finding.Finding as lint
+use Rattle.fluent_patterns.specs.Categories.{Categories, categories_of, no_categories}
+use Rattle.fluent_patterns.specs.Found as found
+use Rattle.fluent_patterns.specs.Found.{found_in}
+use Rattle.fluent_patterns.specs.Terms.{TellsAskedAt}
 use Rattle.fluent_check.specs.Called.{with_functions}
-use Rattle.fluent_check.specs.Categories.{Categories, categories_of, no_categories}
 use Rattle.fluent_check.specs.Differences.{AreDifferences, reference_names}
 use Rattle.fluent_check.specs.Faultless.{tag_of}
-use Rattle.fluent_check.specs.Found as found
-use Rattle.fluent_check.specs.Found.{found_in}
 use Rattle.fluent_check.specs.Groups.{Group, all_in, entries_loaded, groups_of, loaded}
 use Rattle.fluent_check.specs.Languages.{all_of}
 use Rattle.fluent_check.specs.Linted.{AreLinted, is_none}
@@ -22,7 +23,6 @@ use Rattle.fluent_check.specs.ReadFiles.{ReadFile}
 use Rattle.fluent_check.specs.Repeated.{function_ids, repeated_attributes}
 use Rattle.fluent_check.specs.Standing.{Standing, standings_in}
 use Rattle.fluent_check.specs.Taken.{taken}
-use Rattle.fluent_check.specs.Terms.{TellsAskedAt}
 use Rattle.fluent_check.specs.Tried.{is_shown}
 use Rattle.fluent_check.specs.Unreadable.{unreadable}
 use Rattle.fluent_check.specs.Whole.{found_wholes, whole_problems}

@@ -2,18 +2,18 @@
 use Rattle.std.specs.Prelude.{◌≡◌, Bool, List, [], ◌∷◌, ◌++◌}
 use Rattle.fluent_ast.specs.Tree.{Text, Pattern}
 use Rattle.fluent_semantics.specs.Bundle.{Target, unknown, without_value, found}
-use Rattle.fluent_lint.specs.Asked.{texts}
-use Rattle.fluent_lint.specs.Clean.{Place, Names, names_of, place_target, needs}
+use Rattle.fluent_places.specs.Asked.{texts}
+use Rattle.fluent_places.specs.Clean.{Place, Names, names_of, place_target, needs}
+use Rattle.fluent_patterns.specs.Categories.{Categories}
+use Rattle.fluent_patterns.specs.Found.{Flaw, Found}
+use Rattle.fluent_patterns.specs.Missing.{missing}
+use Rattle.fluent_patterns.specs.Numbers.{no_numbers}
+use Rattle.fluent_patterns.specs.Selects.{select_flaws}
+use Rattle.fluent_patterns.specs.Terms.{asks_of, term_flaws}
 use Rattle.fluent_check.specs.Bundles.{bundle_view}
 use Rattle.fluent_check.specs.Called.{functions_in}
-use Rattle.fluent_check.specs.Categories.{Categories}
 use Rattle.fluent_check.specs.Copied.{is_copied, unless_copied}
-use Rattle.fluent_check.specs.Found.{Flaw, Found}
-use Rattle.fluent_check.specs.Missing.{missing}
-use Rattle.fluent_check.specs.Numbers.{no_numbers}
-use Rattle.fluent_check.specs.Selects.{select_flaws}
 use Rattle.fluent_check.specs.Standing.{Standing, flaws_at}
-use Rattle.fluent_check.specs.Terms.{asks_of, term_flaws}
 use Rattle.fluent_check.specs.declared.patterns.Against as code
 
 -- What patterns are held against: what ids name, functions that the application adds, and whether what stands at a place asks for a variable.

@@ -3,9 +3,9 @@ use Rattle.std.specs.Prelude.{ℕ, List, [], ◌++◌, take, slice_get, codes}
 use Rattle.std.specs.Option.{option_map_or}
 use Rattle.std.specs.Fmt.{decimal}
 use Rattle.fluent_ast.specs.Tree.{Text}
-use Rattle.fluent_lint.specs.Columns.{column_after, line_after}
+use Rattle.fluent_places.specs.Columns.{column_after, line_after}
+use Rattle.fluent_patterns.specs.Found.{Spot, Found}
 use Rattle.fluent_check.specs.Files.{Read}
-use Rattle.fluent_check.specs.Found.{Spot, Found}
 use Rattle.fluent_check.specs.Wording.{entry_text, text_of}
 
 abbrev pub name_at : List Read → ℕ → Text

@@ -2,7 +2,7 @@
 use Rattle.std.specs.Prelude.{◌≡◌, ℕ, List, [], ◌∷◌, ◌++◌, map, get_or, Some}
 use Rattle.std.specs.declared.vec.Vec.{Vec}
 use Rattle.std.proofs.Common.{Global}
-use Rattle.fluent_check.specs.Found.{Spot, Found, Flaw, Part, whole, the_reference, the_select, the_variant, Problem}
+use Rattle.fluent_patterns.specs.Found.{Spot, Found, Flaw, Part, whole, the_reference, the_select, the_variant, Problem}
 use Rattle.fluent_check.specs.ReadFiles.{ReadFile}
 use Rattle.fluent_check.specs.Sites.{Site}
 use Rattle.fluent_check.specs.SiteView.{site_view}

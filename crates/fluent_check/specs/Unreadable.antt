@@ -3,9 +3,9 @@ use Rattle.std.specs.Prelude.{◌+◌, ℕ, List, [], ◌∷◌, ◌++◌, map, 
 use Rattle.fluent_ast.specs.Tree.{Text}
 use Rattle.fluent_reasons.specs.Reasons.{reason}
 use Rattle.fluent_reasons.specs.declared.expected.Reason.{Reason}
+use Rattle.fluent_patterns.specs.Found as found
+use Rattle.fluent_patterns.specs.Found.{Found}
 use Rattle.fluent_check.specs.ReadFiles.{ReadFile}
-use Rattle.fluent_check.specs.Found as found
-use Rattle.fluent_check.specs.Found.{Found}
 
 -- what can't be read from a byte of a file on, by the reason: it stands where reading stopped
 abbrev pub unreadable_by : ℕ → ℕ → Reason → Found

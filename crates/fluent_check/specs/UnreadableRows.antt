@@ -3,8 +3,8 @@ use Rattle.std.proofs.Common.{◌≡◌, List, [], ◌∷◌, ◌++◌, false, r
 use Rattle.std.specs.Fmt as fmt
 use Rattle.std.specs.Prelude.{codes}
 use Rattle.fluent_reasons.specs.declared.expected.Expected.TheVariants as expected
+use Rattle.fluent_patterns.specs.Found.{Found}
 use Rattle.fluent_check.specs.Files.{Read}
-use Rattle.fluent_check.specs.Found.{Found}
 use Rattle.fluent_check.specs.Positions.{found_text, spot_text}
 use Rattle.fluent_check.specs.Unreadable.{unreadable_by}
 

@@ -1,14 +1,14 @@
 //! What stands in a translation or in its reference alone.
 
 ghost use Rattle.std.specs.Prelude.{◌≡◌, OnOk};
-ghost use Rattle.fluent_lint.specs.Clean.{place_view};
+ghost use Rattle.fluent_places.specs.Clean.{place_view};
+ghost use Rattle.fluent_patterns.specs.Found.{AddsFlaws, problem_view};
 ghost use Rattle.fluent_check.specs.Alone.{has_message, is_alone, is_of_message, is_told, side_view, unreferenced, untranslated, whole_if};
-ghost use Rattle.fluent_check.specs.Found.{AddsFlaws, problem_view};
 
 use crate::among::stands;
 use crate::bundle::Bundle;
-use crate::finding::{Flaw, Part, Problem};
 use fluent_lint::Place;
+use fluent_patterns::{Flaw, Part, Problem};
 use indexmap::IndexSet;
 use std::alloc::AllocError;
 

@@ -1,8 +1,8 @@
 //! Whether a name or a place is one of some.
 
 ghost use Rattle.std.specs.Prelude.{◌≡◌};
-ghost use Rattle.fluent_lint.specs.Asked.{texts};
-ghost use Rattle.fluent_lint.specs.Clean.{place_view, views};
+ghost use Rattle.fluent_places.specs.Asked.{texts};
+ghost use Rattle.fluent_places.specs.Clean.{place_view, views};
 ghost use Rattle.fluent_check.specs.Among.{is_at, is_in};
 
 use fluent_lint::Place;

@@ -1,9 +1,10 @@
 //! Bundles of sources.
 ghost use Rattle.std.specs.Prelude.{◌≡◌, IfOk, OnOk, map};
-ghost use Rattle.fluent_lint.specs.Asked.{texts};
+ghost use Rattle.fluent_places.specs.Asked.{texts};
+ghost use Rattle.fluent_patterns.specs.Languages.{language_rules};
 ghost use Rattle.fluent_check.specs.Bundles.{AddsBundle, adding, bundle_view, entries_of_all, resource_bundle};
 ghost use Rattle.fluent_check.specs.Groups.{entries_loaded, group_view};
-ghost use Rattle.fluent_check.specs.Languages.{adding_all, all_of, language_rules, start_of};
+ghost use Rattle.fluent_check.specs.Languages.{adding_all, all_of, start_of};
 ghost use Rattle.fluent_check.specs.ReadFiles.{entries_in, file_view};
 
 use crate::called::add_functions;

@@ -2,14 +2,14 @@
 
 ghost use Rattle.std.specs.Prelude.{◌≡◌, [], ◌∷◌, OnOk};
 ghost use Rattle.fluent_ast.specs.View.{pattern_view};
-ghost use Rattle.fluent_lint.specs.Clean.{needs};
-ghost use Rattle.fluent_lint.specs.NeedsView.{need_view};
-ghost use Rattle.fluent_lint.specs.Asked.{texts};
+ghost use Rattle.fluent_places.specs.Clean.{needs};
+ghost use Rattle.fluent_places.specs.NeedsView.{need_view};
+ghost use Rattle.fluent_places.specs.Asked.{texts};
 ghost use Rattle.fluent_check.specs.Bundles.{bundle_view};
 ghost use Rattle.fluent_check.specs.Called.{AddsNames, functions_in, with_function, with_functions};
 
 use crate::bundle::Bundle;
-use fluent_bundle::ast::Pattern;
+use fluent_ast::ast::Pattern;
 use fluent_bundle::{AddFault, NoFunction};
 use fluent_lint::{Need, needs};
 use std::alloc::{AllocError, Global};

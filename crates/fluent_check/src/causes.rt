@@ -3,15 +3,15 @@
 ghost use Rattle.std.specs.Prelude.{◌≡◌, ◌+◌, [], ◌∷◌, ◌++◌, IfOk, OnOk, Some, map};
 ghost use Rattle.std.specs.Option.{option_map};
 ghost use Rattle.fluent_ast.specs.View.{attribute_of};
-ghost use Rattle.fluent_lint.specs.Clean.{place_view};
+ghost use Rattle.fluent_places.specs.Clean.{place_view};
+ghost use Rattle.fluent_patterns.specs.Found.{found_view, problem_view};
 ghost use Rattle.fluent_check.specs.Causes.{attribute_or_none, cause_of, folded, folded_views, others_at, others_text, place_subject, subject_of, told_at};
 ghost use Rattle.fluent_check.specs.Files.{Adds};
-ghost use Rattle.fluent_check.specs.Found.{found_view, problem_view};
 ghost use Rattle.fluent_check.specs.Inside.Causes.{AreCounts, Counts, Tells, cause_view, number_in};
 
-use crate::finding::{Finding, Problem};
 use fluent_ast::ast::Identifier;
 use fluent_lint::Place;
+use fluent_patterns::{Finding, Problem};
 use indexmap::IndexMap;
 use std::alloc::{AllocError, Global};
 

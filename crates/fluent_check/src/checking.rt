@@ -1,13 +1,13 @@
 //! All that is found in files.
 
 ghost use Rattle.std.specs.Prelude.{◌≡◌, [], ◌∷◌, IfOk, IsTrue, OnOk, map};
-ghost use Rattle.fluent_lint.specs.Clean.{names_of};
+ghost use Rattle.fluent_places.specs.Clean.{names_of};
+ghost use Rattle.fluent_patterns.specs.CategoryView.{categories_view};
+ghost use Rattle.fluent_patterns.specs.Found.{AddsFound, found_in};
 ghost use Rattle.fluent_check.specs.Bundles.{bundle_view};
-ghost use Rattle.fluent_check.specs.CategoryView.{categories_view};
 ghost use Rattle.fluent_check.specs.Differences.{reference_names};
 ghost use Rattle.fluent_check.specs.Faultless.{AreFaultlessBy, tag_of};
 ghost use Rattle.fluent_check.specs.Faults.{faults_of, ids_in, ids_of};
-ghost use Rattle.fluent_check.specs.Found.{AddsFound, found_in};
 ghost use Rattle.fluent_check.specs.Groups.{entries_loaded, group_view, groups_from, groups_of, loaded, read_group};
 ghost use Rattle.fluent_check.specs.Inside.Faultless.{AreEachFaultless, AreFaultlessFiles, IsFaultlessBy, calling};
 ghost use Rattle.fluent_check.specs.Inside.Looks.{AddsAllDifferences, AddsDifferences, AddsLinted, AddsLooks, AddsPatternsBy};
@@ -23,9 +23,7 @@ ghost use Rattle.fluent_check.specs.Whole.{found_whole, found_wholes, whole_view
 
 use crate::bundle::{Bundle, bundle_of_group};
 use crate::called::add_functions;
-use crate::categories::{Categories, categories_of, no_categories};
 use crate::files::{Read, add_sources, all_files};
-use crate::finding::{Finding, Part};
 use crate::groups::Group;
 use crate::linted::lint_all;
 use crate::patterns::{Against, add_patterns, add_selects, called_in};
@@ -35,10 +33,10 @@ use crate::repeated::{add_function_ids, add_repeated};
 use crate::source::Sources;
 use crate::standing::{Standing, standings_in};
 use crate::taken::add_taken;
-use crate::terms::terms_at;
 use crate::unreadable::add_unreadable;
 use crate::whole::Whole;
 use fluent_lint::Place;
+use fluent_patterns::{Categories, Finding, Part, categories_of, no_categories, terms_at};
 use std::alloc::{AllocError, Global};
 use std::slice;
 

@@ -3,21 +3,20 @@
 ghost use Rattle.std.specs.Prelude.{◌≡◌, [], ◌∷◌, IfOk, OnOk, Some, map};
 ghost use Rattle.std.specs.Option.{option_map};
 ghost use Rattle.fluent_ast.specs.View.{pattern_view};
-ghost use Rattle.fluent_lint.specs.Asked.{texts};
-ghost use Rattle.fluent_lint.specs.Clean.{views};
-ghost use Rattle.fluent_lint.specs.NeedsView.{need_view, needs_view};
+ghost use Rattle.fluent_places.specs.Asked.{texts};
+ghost use Rattle.fluent_places.specs.Clean.{views};
+ghost use Rattle.fluent_places.specs.NeedsView.{need_view, needs_view};
+ghost use Rattle.fluent_patterns.specs.Found.{AddsFlaws};
 ghost use Rattle.fluent_check.specs.Compared.{differences, flaws_by, function_of, functions_left_out, is_reference, references, term_of, told_view, variables_left_out, wording_view};
-ghost use Rattle.fluent_check.specs.Found.{AddsFlaws};
 ghost use Rattle.fluent_check.specs.Inside.Names.{AddsReference, HasMore, IsOwn, TellsOnce, names_if};
 
 use crate::among::has;
-use crate::finding::Flaw;
 use crate::rules::{
     FunctionsLeftOut, Rule, TermsLeftOut, Told, UnknownVariables, VariablesLeftOut,
 };
-use crate::shown::{Wanted, shown_in};
-use fluent_bundle::ast::Pattern;
+use fluent_ast::ast::Pattern;
 use fluent_lint::{Need, Place, needs};
+use fluent_patterns::{Flaw, Wanted, shown_in};
 use indexmap::IndexSet;
 use std::alloc::{AllocError, Global};
 

@@ -1,18 +1,10 @@
 //! Laws of what is found.
-ghost use Rattle.std.specs.Prelude.{◌≡◌, ℕ, List, length};
-ghost use Rattle.fluent_ast.specs.Tree.{Pattern};
+ghost use Rattle.std.specs.Prelude.{◌≡◌, ℕ, List};
 ghost use Rattle.fluent_check.specs.Linted.{LargeErrorsAreShown};
 ghost use Rattle.fluent_check.specs.Files.{Read};
-ghost use Rattle.fluent_check.specs.Numbered.{references};
-ghost use Rattle.fluent_check.specs.Numbers.{calls};
 ghost use Rattle.fluent_check.specs.ReadFiles.{files_of, files_read};
 ghost use Rattle.fluent_check.specs.Reading.{AreRead};
 ghost use Rattle.fluent_check.specs.declared.source.Sources.{Sources};
-
-/// Of each reference of a pattern it is told whether it is a call of `NUMBER` with what is no number.
-pub fn calls_are_told_of_references()
-    ensures { (p : Pattern) → length (calls p) ≡ length (references p) }
-{}
 
 /// Each error of too many placeables has arguments that show it.
 pub fn large_errors_are_shown()

@@ -2,7 +2,7 @@
 
 ghost use Rattle.std.specs.Prelude.{◌≡◌, ◌+◌, ◌<◌, ◌≤◌, ◌^◌, length, take, IfOk};
 ghost use Rattle.std.specs.List.{All};
-ghost use Rattle.fluent_lint.specs.Columns.{column_after, line_after};
+ghost use Rattle.fluent_places.specs.Columns.{column_after, line_after};
 ghost use Rattle.fluent_check.specs.LineMarks.{IsMark};
 ghost use Rattle.fluent_check.specs.Reading.{read_view};
 

@@ -1,7 +1,7 @@
 //! What the linter says of a bundle of files.
 
 ghost use Rattle.std.specs.Prelude.{◌≡◌, [], IfOk, IsTrue, OnOk, map};
-ghost use Rattle.fluent_lint.specs.Clean.{places_in, views};
+ghost use Rattle.fluent_places.specs.Clean.{places_in, views};
 ghost use Rattle.fluent_bundle.specs.BundleView.{entries_of};
 ghost use Rattle.fluent_check.specs.Bundles.{bundle_view};
 ghost use Rattle.fluent_check.specs.Groups.{entries_loaded, group_view};
@@ -13,7 +13,8 @@ use crate::files::Read;
 use crate::groups::Group;
 use crate::whole::{Whole, whole_problems};
 use fluent_bundle::FluentResource;
-use fluent_lint::{Finding, Place, laws, lint_places, places_of};
+use fluent_lint::{Finding, Place, lint_places, places_of};
+use fluent_places::laws;
 use std::alloc::{AllocError, Global};
 
 /// What the linter finds in files.

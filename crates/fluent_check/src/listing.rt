@@ -1,7 +1,7 @@
 //! The values and attributes of files, with what each asks for.
 
 ghost use Rattle.std.specs.Prelude.{◌≡◌, IfOk, codes, map};
-ghost use Rattle.fluent_lint.specs.Clean.{names_of, views};
+ghost use Rattle.fluent_places.specs.Clean.{names_of, views};
 ghost use Rattle.fluent_check.specs.Bundles.{bundle_view};
 ghost use Rattle.fluent_check.specs.Groups.{entries_loaded, group_view, loaded};
 ghost use Rattle.fluent_check.specs.Languages.{all_of};

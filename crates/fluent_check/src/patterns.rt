@@ -2,32 +2,30 @@
 
 ghost use Rattle.std.specs.Prelude.{◌≡◌, IfOk, OnOk, Some};
 ghost use Rattle.fluent_ast.specs.View.{pattern_view};
-ghost use Rattle.fluent_lint.specs.Asked.{texts};
-ghost use Rattle.fluent_lint.specs.Clean.{names_of};
-ghost use Rattle.fluent_lint.specs.PlaceView.{pattern_at};
+ghost use Rattle.fluent_places.specs.Asked.{texts};
+ghost use Rattle.fluent_places.specs.Clean.{names_of};
+ghost use Rattle.fluent_places.specs.PlaceView.{pattern_at};
+ghost use Rattle.fluent_patterns.specs.Categories.{no_categories};
+ghost use Rattle.fluent_patterns.specs.CategoryView.{categories_view};
+ghost use Rattle.fluent_patterns.specs.Found.{AddsFound, flaws_in};
+ghost use Rattle.fluent_patterns.specs.Terms.{AreOf};
 ghost use Rattle.fluent_check.specs.Bundles.{bundle_view};
 ghost use Rattle.fluent_check.specs.Called.{AddsNames};
-ghost use Rattle.fluent_check.specs.Categories.{no_categories};
-ghost use Rattle.fluent_check.specs.CategoryView.{categories_view};
 ghost use Rattle.fluent_check.specs.Copied.{is_same, unless_copied};
-ghost use Rattle.fluent_check.specs.Found.{AddsFound, flaws_in};
 ghost use Rattle.fluent_check.specs.Inside.Names.{names_by};
 ghost use Rattle.fluent_check.specs.Patterns.{against_view, called_at, called_in, flaws_of, found_in_pattern, found_in_patterns, found_selects, found_selects_at};
 ghost use Rattle.fluent_check.specs.Standing.{standing_view, standings};
-ghost use Rattle.fluent_check.specs.Terms.{AreOf};
 
 use crate::bundle::Bundle;
 use crate::called::add_called;
-use crate::categories::{Categories, no_categories};
-use crate::finding::{Finding, Flaw};
-use crate::missing::add_missing;
-use crate::numbers::add_no_numbers;
 use crate::places::Places;
-use crate::selects::add_select_flaws;
 use crate::standing::{Standing, add_flaws};
-use crate::terms::{Terms, add_term_flaws};
-use fluent_bundle::ast::Pattern;
+use fluent_ast::ast::Pattern;
 use fluent_lint::{Place, pattern_at};
+use fluent_patterns::{
+    Categories, Finding, Flaw, Terms, add_missing, add_no_numbers, add_select_flaws,
+    add_term_flaws, no_categories,
+};
 use std::alloc::{AllocError, Global};
 
 /// What patterns are held against.

@@ -1,15 +1,15 @@
 //! Where findings stand in files.
 
 ghost use Rattle.std.specs.Prelude.{◌≡◌, IfOk, map};
-ghost use Rattle.fluent_check.specs.Found.{spot_view};
+ghost use Rattle.fluent_patterns.specs.Found.{spot_view};
 ghost use Rattle.fluent_check.specs.Lined.{lined_views};
 ghost use Rattle.fluent_check.specs.Positions.{column_at, line_at, name_at};
 ghost use Rattle.fluent_check.specs.Reading.{read_view};
 
-use crate::finding::Spot;
 use crate::lines::Lined;
 use crate::source::Source;
 use fluent_lint::LineColumn;
+use fluent_patterns::Spot;
 use std::alloc::{AllocError, Global};
 
 /// Sources, each with marks of its lines.

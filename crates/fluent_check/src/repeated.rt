@@ -2,15 +2,15 @@
 
 ghost use Rattle.std.specs.Prelude.{◌≡◌, [], IfOk, OnOk, map};
 ghost use Rattle.std.specs.Option.{option_map};
-ghost use Rattle.fluent_lint.specs.Clean.{place_view};
-ghost use Rattle.fluent_check.specs.Found.{AddsFound};
+ghost use Rattle.fluent_places.specs.Clean.{place_view};
+ghost use Rattle.fluent_patterns.specs.Found.{AddsFound};
 ghost use Rattle.fluent_check.specs.Inside.Ids.{Repeats};
 ghost use Rattle.fluent_check.specs.Repeated.{attribute_in, function_ids, is_function_id, repeated_attributes};
 ghost use Rattle.fluent_check.specs.Standing.{standing_view};
 
-use crate::finding::{Finding, Part, Problem};
 use crate::standing::Standing;
 use fluent_lint::Place;
+use fluent_patterns::{Finding, Part, Problem};
 use indexmap::IndexSet;
 use std::alloc::{AllocError, Global};
 

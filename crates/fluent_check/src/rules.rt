@@ -2,15 +2,15 @@
 
 ghost use Rattle.std.specs.Prelude.{◌≡◌};
 ghost use Rattle.std.specs.Option.{option_map};
-ghost use Rattle.fluent_lint.specs.Asked.{texts};
-ghost use Rattle.fluent_lint.specs.Clean.{views};
-ghost use Rattle.fluent_lint.specs.NeedsView.{need_view};
+ghost use Rattle.fluent_places.specs.Asked.{texts};
+ghost use Rattle.fluent_places.specs.Clean.{views};
+ghost use Rattle.fluent_places.specs.NeedsView.{need_view};
+ghost use Rattle.fluent_patterns.specs.Found.{flaw_view, problem_view, whole};
 ghost use Rattle.fluent_check.specs.Compared.{Rule, of_functions_left_out, of_terms_left_out, of_unknown_variables, of_variables_left_out, told_unless, told_view};
-ghost use Rattle.fluent_check.specs.Found.{flaw_view, problem_view, whole};
 
 use crate::among::{has, stands};
-use crate::finding::{Flaw, Part, Problem};
 use fluent_lint::{Need, Place};
+use fluent_patterns::{Flaw, Part, Problem};
 use indexmap::IndexSet;
 
 /// What is told of a name.

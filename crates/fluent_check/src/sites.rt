@@ -6,12 +6,12 @@ ghost use Rattle.fluent_check.specs.Sites as spec;
 ghost use Rattle.fluent_check.specs.Sites.{sites, sorted};
 ghost use Rattle.fluent_bundle.specs.BundleView.{entries_of, source_in};
 ghost use Rattle.fluent_check.specs.SiteView.{offsets_view, site_views};
-ghost use Rattle.fluent_lint.specs.Clean.{views};
+ghost use Rattle.fluent_places.specs.Clean.{views};
 
-use crate::marks::{Mark, What, marks_of};
 use fluent_ast::ast::Entry;
 use fluent_bundle::FluentResource;
 use fluent_lint::{Place, places_of};
+use fluent_patterns::{Mark, What, marks_of};
 use fluent_syntax::entry_starts;
 use std::alloc::{AllocError, Global};
 

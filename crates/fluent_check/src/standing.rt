@@ -1,16 +1,16 @@
 //! Values and attributes of files, with the files in which they stand.
 
 ghost use Rattle.std.specs.Prelude.{◌≡◌, IfOk, OnOk, get_or, map};
-ghost use Rattle.fluent_check.specs.Found.{AddsFound, flaw_view, found_view, part_view, problem_view, spot_view};
+ghost use Rattle.fluent_patterns.specs.Found.{AddsFound, flaw_view, found_view, part_view, problem_view, spot_view};
 ghost use Rattle.fluent_check.specs.Groups.{group_view, loaded};
 ghost use Rattle.fluent_check.specs.ReadFiles.{file_view};
 ghost use Rattle.fluent_check.specs.SiteView.{site_view};
 ghost use Rattle.fluent_check.specs.Standing.{AddsStanding, byte_of, flaws_at, found_at, spot_of, standing_view, standings, standings_in, standings_of};
 
 use crate::files::Read;
-use crate::finding::{Finding, Flaw, Part, Problem, Spot};
 use crate::groups::Group;
 use crate::sites::Site;
+use fluent_patterns::{Finding, Flaw, Part, Problem, Spot};
 use std::alloc::{AllocError, Global};
 
 /// A value or an attribute, and the number of the file in which it stands.

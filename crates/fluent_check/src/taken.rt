@@ -2,15 +2,15 @@
 
 ghost use Rattle.std.specs.Prelude.{◌≡◌, [], OnOk, map};
 ghost use Rattle.std.specs.Option.{option_map};
-ghost use Rattle.fluent_lint.specs.Clean.{place_view};
-ghost use Rattle.fluent_check.specs.Found.{AddsFound, spot_view};
+ghost use Rattle.fluent_places.specs.Clean.{place_view};
+ghost use Rattle.fluent_patterns.specs.Found.{AddsFound, spot_view};
 ghost use Rattle.fluent_check.specs.Inside.Ids.{Takes, firsts_in};
 ghost use Rattle.fluent_check.specs.Standing.{standing_view};
 ghost use Rattle.fluent_check.specs.Taken.{first_of, id_in, taken};
 
-use crate::finding::{Finding, Part, Problem, Spot};
 use crate::standing::Standing;
 use fluent_lint::Place;
+use fluent_patterns::{Finding, Part, Problem, Spot};
 use indexmap::IndexMap;
 use std::alloc::{AllocError, Global};
 

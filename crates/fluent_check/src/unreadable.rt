@@ -2,13 +2,13 @@
 
 ghost use Rattle.std.specs.Prelude.{◌≡◌, OnOk, IfOk, map};
 ghost use Rattle.fluent_syntax.specs.Parsed.{error_range};
-ghost use Rattle.fluent_check.specs.Found.{AddsFound, found_view};
+ghost use Rattle.fluent_patterns.specs.Found.{AddsFound, found_view};
 ghost use Rattle.fluent_check.specs.ReadFiles.{file_view};
 ghost use Rattle.fluent_check.specs.Unreadable.{unreadable, unreadable_at, unreadable_in, unreadable_of};
 
 use crate::files::Read;
-use crate::finding::{Finding, Problem, Spot};
 use fluent_bundle::ParserError;
+use fluent_patterns::{Finding, Problem, Spot};
 use fluent_reasons::reason_of;
 use std::alloc::{AllocError, Global};
 

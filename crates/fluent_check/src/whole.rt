@@ -2,16 +2,16 @@
 
 ghost use Rattle.std.specs.Prelude.{◌≡◌, IfOk};
 ghost use Rattle.std.specs.Option.{option_map};
-ghost use Rattle.fluent_lint.specs.Clean.{place_view, views};
-ghost use Rattle.fluent_check.specs.Found.{problem_view};
+ghost use Rattle.fluent_places.specs.Clean.{place_view, views};
+ghost use Rattle.fluent_patterns.specs.Found.{problem_view};
 ghost use Rattle.fluent_check.specs.Bundles.{bundle_view};
 ghost use Rattle.fluent_check.specs.Tried.{is_shown};
 ghost use Rattle.fluent_check.specs.Whole.{all_lead_on, large_problem, leads_on, second_or, whole_problem, whole_problems, wholes};
 
 use crate::bundle::Bundle;
-use crate::finding::Problem;
 use crate::tried::is_shown;
 use fluent_lint::{Finding as Linted, Kind, Place};
+use fluent_patterns::Problem;
 use std::alloc::{AllocError, Global};
 
 /// A problem of a whole value or attribute.

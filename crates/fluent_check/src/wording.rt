@@ -2,20 +2,20 @@
 
 ghost use Rattle.std.specs.Prelude.{[], ◌++◌, codes, OnOk, IfOk, ◌≡◌, string_bytes};
 ghost use Rattle.fluent_ast.specs.View.{attribute_of};
-ghost use Rattle.fluent_lint.specs.Clean.{place_view};
+ghost use Rattle.fluent_places.specs.Clean.{place_view};
 ghost use Rattle.fluent_reasons.specs.ExpectedText.{expected_text};
+ghost use Rattle.fluent_patterns.specs.Found.{problem_view, spot_view};
 ghost use Rattle.fluent_check.specs.Files.{Adds};
-ghost use Rattle.fluent_check.specs.Found.{problem_view, spot_view};
 ghost use Rattle.fluent_check.specs.Lined.{lined_views};
 ghost use Rattle.fluent_check.specs.Positions.{line_at, line_beside, shown_spot, spot_text};
 ghost use Rattle.fluent_check.specs.Wording.{attribute_text, cycle_text, place_text, said_given, said_in, said_of, round_text, taken_text, text_of, too_many_text, unread_text};
 ghost use Rattle.std.specs.Fmt.{decimal};
 
-use crate::finding::{Problem, Spot};
 use crate::lines::Lined;
 use crate::positions::{name_at, position_at};
 use fluent_ast::ast::Identifier;
 use fluent_lint::Place;
+use fluent_patterns::{Problem, Spot};
 use fluent_reasons::Expected;
 use std::alloc::{AllocError, Global};
 

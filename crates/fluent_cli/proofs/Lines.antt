@@ -2,9 +2,9 @@
 use Rattle.std.proofs.Common.{◌≡◌, ◌∙◌, ◌++◌, List, [], ◌∷◌, Option, Some, None, ap, flat_map, refl}
 use Rattle.std.specs.Borrow.{Bor}
 use Rattle.fluent_ast.specs.Tree.{Text}
-use Rattle.fluent_lint.specs.Asked.{AreAskedIn, IsAskedIn, texts}
-use Rattle.fluent_lint.specs.Clean.{Place, Names}
-use Rattle.fluent_lint.specs.declared.asked.Asked.{Asked}
+use Rattle.fluent_places.specs.Asked.{AreAskedIn, IsAskedIn, texts}
+use Rattle.fluent_places.specs.Clean.{Place, Names}
+use Rattle.fluent_places.specs.declared.asked.Asked.{Asked}
 use Rattle.fluent_check.specs.Wording.{place_text}
 use Rattle.fluent_cli.specs.Inside.Listing.{line_by, variables_text}
 use Rattle.fluent_cli.specs.Listed.{AreLines, IsLine}

@@ -2,8 +2,8 @@
 use Rattle.std.specs.Prelude.{◌≡◌, ◌==◌, ◌&&◌, ◌||◌, ℕ, not, Bool, true, false, IsTrue, List, [], ◌∷◌, is_some, if◌then◌else◌}
 use Rattle.std.specs.Borrow.{Bor}
 use Rattle.fluent_ast.specs.Tree.{Text}
+use Rattle.fluent_patterns.specs.Found.{found_in}
 use Rattle.fluent_check.specs.Faultless.{AreFaultlessBy, tag_of}
-use Rattle.fluent_check.specs.Found.{found_in}
 use Rattle.fluent_check.specs.Groups.{read_group}
 use Rattle.fluent_check.specs.Looks.{IsFound}
 use Rattle.fluent_check.specs.Reading.{entries_read}

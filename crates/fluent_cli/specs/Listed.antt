@@ -3,8 +3,8 @@
 -- variables that one asks for, and no other; `AreDistinct`, each stands there once.
 use Rattle.std.specs.Prelude.{◌≡◌, List, [], ◌∷◌, ◌++◌, flat_map, codes, string_bytes}
 use Rattle.fluent_ast.specs.Tree.{Text}
-use Rattle.fluent_lint.specs.Asked.{AreAsked, AreDistinct}
-use Rattle.fluent_lint.specs.Clean.{Place, Names}
+use Rattle.fluent_places.specs.Asked.{AreAsked, AreDistinct}
+use Rattle.fluent_places.specs.Clean.{Place, Names}
 use Rattle.fluent_check.specs.Listed.{listed_names, listed_places}
 use Rattle.fluent_check.specs.ReadFiles.{files_read}
 use Rattle.fluent_check.specs.Wording.{place_text}

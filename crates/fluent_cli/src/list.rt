@@ -2,8 +2,8 @@
 
 ghost use Rattle.std.specs.Prelude.{IfOk, OnOk, flat_map};
 ghost use Rattle.fluent_check.specs.Files.{Adds};
-ghost use Rattle.fluent_lint.specs.Asked.{texts};
-ghost use Rattle.fluent_lint.specs.Clean.{place_view, views};
+ghost use Rattle.fluent_places.specs.Asked.{texts};
+ghost use Rattle.fluent_places.specs.Clean.{place_view, views};
 ghost use Rattle.fluent_cli.specs.Inside.Listing.{line_by};
 ghost use Rattle.fluent_cli.specs.Listed.{IsListed, variable_text};
 

@@ -5,8 +5,8 @@ use Rattle.std.specs.Cmp.{IsStrictWeakOrder, nat_cmp_total, on_total, then_total
 use Rattle.std.specs.List.Sorted.{IsSortedByKey, IsStableByKey}
 use Rattle.std.specs.declared.cmp.Ordering.{Ordering}
 use Rattle.std.specs.Ordering.{is_lt, nat_cmp, ordering_then}
-use Rattle.fluent_check.specs.Found.{found_view}
-use Rattle.fluent_check.specs.declared.finding.Finding.{Finding}
+use Rattle.fluent_patterns.specs.Found.{found_view}
+use Rattle.fluent_patterns.specs.declared.finding.Finding.{Finding}
 use Rattle.fluent_cli_report.specs.Rows.{in_order, is_before}
 use Rattle.fluent_cli_report.proofs.Sorted.{is_sorted_by, map_sorted}
 

@@ -5,9 +5,9 @@ use Rattle.std.proofs.lemmas.List.{at_drop_more, map-append}
 use Rattle.std.specs.List.{list_any}
 use Rattle.std.specs.declared.vec.Vec.{Vec}
 use Rattle.fluent_ast.specs.Tree.{Text}
+use Rattle.fluent_patterns.specs.Found.{Found, found_in, found_view}
+use Rattle.fluent_patterns.specs.declared.finding.Finding.{Finding}
 use Rattle.fluent_check.specs.Files.{Read}
-use Rattle.fluent_check.specs.Found.{Found, found_in, found_view}
-use Rattle.fluent_check.specs.declared.finding.Finding.{Finding}
 use Rattle.fluent_cli_report.specs.Rows.{kept_after, line_text, row_of}
 use Rattle.fluent_cli_report.specs.Kept.{KeepsMore}
 

@@ -1,6 +1,6 @@
 -- Each kind of problem has a rule.
 use Rattle.std.proofs.Common.{refl}
-use Rattle.fluent_check.specs.Found.{unreadable, taken_id, function_id, repeated_attribute, missing_message, missing_attribute, missing_value, missing_term, missing_term_attribute, missing_function, not_a_function, cycle, too_many_placeables, may_open_too_many, leads_to, not_given, unused_argument, no_number, no_category, never_comes, repeated_variant, not_translated, value_not_translated, value_not_in_reference, not_in_reference, unknown_variable, variable_left_out, term_left_out, function_left_out}
+use Rattle.fluent_patterns.specs.Found.{unreadable, taken_id, function_id, repeated_attribute, missing_message, missing_attribute, missing_value, missing_term, missing_term_attribute, missing_function, not_a_function, cycle, too_many_placeables, may_open_too_many, leads_to, not_given, unused_argument, no_number, no_category, never_comes, repeated_variant, not_translated, value_not_translated, value_not_in_reference, not_in_reference, unknown_variable, variable_left_out, term_left_out, function_left_out}
 use Rattle.fluent_cli_report.specs.Rules.{EachHasRule, UnreadHasRule}
 
 pub each_has_rule : EachHasRule

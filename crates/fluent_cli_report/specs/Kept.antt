@@ -2,9 +2,9 @@
 use Rattle.std.specs.Prelude.{◌≡◌, List, ◌∷◌, ◌++◌, map, String, string_bytes}
 use Rattle.std.proofs.Common.{Global}
 use Rattle.std.specs.declared.vec.Vec.{Vec}
+use Rattle.fluent_patterns.specs.Found.{Found, found_in}
+use Rattle.fluent_patterns.specs.declared.finding.Finding.{Finding}
 use Rattle.fluent_check.specs.Files.{Read}
-use Rattle.fluent_check.specs.Found.{Found, found_in}
-use Rattle.fluent_check.specs.declared.finding.Finding.{Finding}
 use Rattle.fluent_cli_report.specs.Rows.{Row, kept_after}
 use Rattle.fluent_cli_report.specs.declared.rows.Row as code
 

@@ -1,9 +1,9 @@
 -- What a report is, by what is asked of it, the files, what was found in them, and those that can't be read.
 use Rattle.std.specs.Prelude.{◌≡◌, ◌==◌, ◌&&◌, ℕ, Bool, false, not, List, length, ◌++◌, flat_map, map, String}
 use Rattle.std.proofs.Common.{Global}
+use Rattle.fluent_patterns.specs.Found.{found_view}
 use Rattle.fluent_check.specs.Faults.{faults_of}
 use Rattle.fluent_check.specs.Files.{Adds, Read}
-use Rattle.fluent_check.specs.Found.{found_view}
 use Rattle.fluent_check.specs.ReadFiles.{files_read}
 use Rattle.fluent_check.specs.Reading.{texts_read}
 use Rattle.fluent_check.specs.declared.source.Sources.{Sources}

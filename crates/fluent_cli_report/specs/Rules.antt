@@ -3,8 +3,8 @@ use Rattle.std.specs.Prelude.{◌≡◌, Bool, true, codes}
 use Rattle.std.specs.List.{list_any}
 use Rattle.std.specs.Str.{bytes_eq}
 use Rattle.fluent_ast.specs.Tree.{Text}
-use Rattle.fluent_check.specs.Found.{Problem}
-use Rattle.fluent_check.specs.Problems.{name_of}
+use Rattle.fluent_patterns.specs.Found.{Problem}
+use Rattle.fluent_patterns.specs.Problems.{name_of}
 use Rattle.fluent_cli_report.specs.Sarif.{kinds}
 
 abbrev pub has_rule : Text → Bool

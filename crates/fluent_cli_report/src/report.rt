@@ -1,8 +1,8 @@
 //! How findings are reported.
 
 ghost use Rattle.std.specs.Prelude.{◌≡◌, ◌++◌, OnOk, IfOk, flat_map, map};
+ghost use Rattle.fluent_patterns.specs.Found.{found_in, found_view};
 ghost use Rattle.fluent_check.specs.Files.{Adds};
-ghost use Rattle.fluent_check.specs.Found.{found_in, found_view};
 ghost use Rattle.fluent_check.specs.Reading.{read_view};
 ghost use Rattle.fluent_cli_report.specs.Kept.{row_view, row_views};
 ghost use Rattle.fluent_cli_report.specs.Picture.{picture};

@@ -3,9 +3,9 @@
 ghost use Rattle.std.specs.Prelude.{◌≡◌, [], ◌∷◌, ◌++◌, false, OnOk, IfOk, map, not, string_bytes};
 ghost use Rattle.std.specs.List.{list_any};
 ghost use Rattle.std.specs.Str.{bytes_eq};
+ghost use Rattle.fluent_patterns.specs.Found.{found_in, found_view};
 ghost use Rattle.fluent_check.specs.Files.{Adds};
 ghost use Rattle.fluent_check.specs.Causes.{folded_view};
-ghost use Rattle.fluent_check.specs.Found.{found_in, found_view};
 ghost use Rattle.fluent_check.specs.Lined.{lined_views};
 ghost use Rattle.fluent_check.specs.Wording.{entry_text};
 ghost use Rattle.fluent_cli_report.specs.Kept.{KeepsMore, row_view, row_views};
@@ -13,7 +13,7 @@ ghost use Rattle.fluent_cli_report.specs.Rows.{errors_in, folded_row, kept, line
 ghost use Rattle.fluent_cli_report.specs.Pages.{page_views, pages_of};
 ghost use Rattle.fluent_cli_report.specs.Told.{is_told};
 ghost use Rattle.std.specs.Option.{option_map};
-ghost use Rattle.fluent_lint.specs.Clean.{place_view};
+ghost use Rattle.fluent_places.specs.Clean.{place_view};
 
 use crate::pages::line_in;
 use fluent_check::causes::put_others;

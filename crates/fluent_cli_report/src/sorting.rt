@@ -3,7 +3,7 @@
 ghost use Rattle.std.specs.Prelude.{◌≡◌, OnOk, IfOk};
 ghost use Rattle.std.specs.List.{list_any};
 ghost use Rattle.std.specs.Str.{bytes_eq};
-ghost use Rattle.fluent_check.specs.Found.{AddsFound, found_in, found_view};
+ghost use Rattle.fluent_patterns.specs.Found.{AddsFound, found_in, found_view};
 ghost use Rattle.std.specs.Prelude.{map};
 ghost use Rattle.fluent_cli_report.specs.Rows.{if_left, in_order, is_left, left_of};
 

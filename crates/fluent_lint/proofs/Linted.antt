@@ -7,11 +7,12 @@ use Rattle.fluent_ast.specs.Tree.{Text}
 use Rattle.fluent_semantics.specs.Bundle.{Bundle}
 use Rattle.fluent_bundle.specs.BundleView.{entries_of}
 use Rattle.fluent_bundle.specs.declared.resource.FluentResource.{FluentResource}
-use Rattle.fluent_lint.specs.Clean.{Place, place_view, views, names_of, places_in}
-use Rattle.fluent_lint.specs.Findings.{places_in_resources, AreFindingsOf, Lints}
-use Rattle.fluent_lint.specs.Laws.{FineIsWritten}
-use Rattle.fluent_lint.specs.declared.finding.Finding.{Finding}
-use Rattle.fluent_lint.specs.declared.place.Place as code
+use Rattle.fluent_places.specs.Clean.{Place, place_view, views, names_of, places_in}
+use Rattle.fluent_places.specs.Findings.{AreFindingsOf}
+use Rattle.fluent_lint.specs.Lints.{places_in_resources, Lints}
+use Rattle.fluent_places.specs.Laws.{FineIsWritten}
+use Rattle.fluent_places.specs.declared.finding.Finding.{Finding}
+use Rattle.fluent_places.specs.declared.place.Place as code
 
 -- ---- the places of resources
 

@@ -1,11 +1,3 @@
-pub mod Clean
-pub mod Findings
-pub mod Laws
-pub mod Asked
+pub mod Lints
 pub mod Twice
-pub mod Columns
-pub mod Facts
-pub mod PlaceView
-pub mod NeedsView
-pub mod Rows
 pub mod Inside

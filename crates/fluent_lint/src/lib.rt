@@ -1,33 +1,12 @@
 //! What is wrong with the messages and terms of a bundle, told before they are formatted.
 #![tactic(auto)]
 
-mod asked;
-mod asking;
-mod checking;
-mod counting;
-mod cycles;
-mod entries;
-pub mod examples;
-mod finding;
-mod groups;
-pub mod laws;
-mod lines;
 mod linting;
-mod listing;
-mod order;
-mod passes;
-pub mod place;
-mod settling;
 mod sources;
 
-pub use asked::Asked;
-pub use asking::variables_of;
-pub use entries::places_of;
-pub use finding::{Finding, Kind};
-pub use lines::{LineColumn, position};
+pub use fluent_places::{
+    Asked, Finding, Kind, LineColumn, Need, Place, lint_places, needs, pattern_at, places_of,
+    position, refers_to, variables_at, variables_of,
+};
 pub use linting::{lint, variables};
-pub use listing::{Need, needs, refers_to};
-pub use passes::lint_places;
-pub use place::{Place, pattern_at};
-pub use settling::variables_at;
 pub use sources::{Definition, Twice, defined_twice, unreadable};

@@ -5,13 +5,12 @@ ghost use Rattle.std.specs.Option.{option_map};
 ghost use Rattle.fluent_ast.specs.View.{entry_view};
 ghost use Rattle.fluent_lint.specs.Twice.{AreTwice, AreUnreadable, defined_from, defined_if, id_of};
 ghost use Rattle.fluent_lint.specs.Inside.Seen.{GoesOver, noted_first};
-ghost use Rattle.fluent_lint.specs.Clean.{views};
-ghost use Rattle.fluent_lint.specs.Findings.{places_in_resources};
+ghost use Rattle.fluent_places.specs.Clean.{views};
+ghost use Rattle.fluent_lint.specs.Lints.{places_in_resources};
 ghost use Rattle.fluent_bundle.specs.BundleView.{source_in};
 
-use crate::entries::places_of;
-use crate::place::Place;
 use fluent_bundle::{FluentResource, ParserError, TryNewFault, ast};
+use fluent_places::{Place, places_of};
 use indexmap::IndexMap;
 use std::alloc::{AllocError, Global};
 

@@ -6,11 +6,9 @@ ghost use Rattle.fluent_resolver_state.specs.PathContents.{is_idle};
 ghost use Rattle.fluent_resolver_state.specs.Status.{is_outside};
 
 use crate::means::Means;
-use fluent_bundle_entries::Ids;
+use fluent_bundle_entries::{FluentError, Ids, ResolverError};
 use fluent_resolver_state::{Counts, State};
-use fluent_values::{
-    Context, FluentArgs, FluentError, FluentFunction, FluentType, HasBundle, ResolverError,
-};
+use fluent_values::{Context, FluentArgs, FluentFunction, FluentType, HasBundle};
 use std::alloc::AllocError;
 
 /// The state of one formatting call between the calls that resolve a part of a pattern: its bundle, where its

@@ -11,8 +11,9 @@ ghost use Rattle.fluent_resolver_state.specs.StateCalls.{Reports, Writes, events
 use crate::fallback::put_in_braces;
 use crate::state::State;
 use fluent_ast::ast::InlineExpression;
+use fluent_bundle_entries::ResolverError;
 use fluent_values::output::{Halt, Output};
-use fluent_values::{Context, FluentFunction, FluentType, ResolverError};
+use fluent_values::{Context, FluentFunction, FluentType};
 use std::alloc::AllocError;
 use std::io::Write;
 

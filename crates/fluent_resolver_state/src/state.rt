@@ -8,8 +8,8 @@ use crate::budget::{Budget, Counts};
 use crate::environment::Environment;
 use crate::path::Path;
 use fluent_ast::ast::Pattern;
-use fluent_bundle_entries::Ids;
-use fluent_values::{Context, FluentArgs, FluentError, FluentFunction, FluentType, ResolverError};
+use fluent_bundle_entries::{FluentError, Ids, ResolverError};
+use fluent_values::{Context, FluentArgs, FluentFunction, FluentType};
 use std::alloc::AllocError;
 
 /// What one formatting call carries: its bundle, where its variables are looked up, the patterns that are being

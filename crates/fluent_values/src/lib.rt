@@ -1,4 +1,4 @@
-//! Values, arguments, messages and errors of Fluent, how values are shown, and what an application hands to a bundle: functions, formatters, transforms.
+//! Values and arguments of Fluent, how values are shown, and what an application hands to a bundle: functions, formatters, transforms.
 #![tactic(auto)]
 
 mod args;
@@ -15,10 +15,6 @@ pub mod types;
 
 pub use args::{ArgsIntoIter, ArgsIter, FluentArgs};
 pub use context::{Context, HasBundle};
-pub use fluent_bundle_entries::{
-    Attributes, Entry, EntryKind, FluentAttribute, FluentError, FluentMessage, FunctionRef,
-    GetEntry, Ids, ReferenceKind, ResolverError,
-};
 pub use formatter::{FluentFormatter, NoFormatter};
 pub use function::{AnswerRule, Answering, FluentFunction, FunctionOf, NoFunction};
 pub use transform::{NoTransform, Transform};

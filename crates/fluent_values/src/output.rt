@@ -129,7 +129,8 @@ pub fn put_unescaped<W: Write>(alloc: Global, out: &mut Output<W>, value: &str) 
     }
 }
 
-/// An answer without the writer's own error, which is kept.
+/// An answer without the writer's own error, which is kept. It is part of its callers, as an answer has some hundred bytes.
+#[inline(always)]
 fn set_aside(answer: Result<(), WriteFault>, error: &mut Option<io::Error>) -> Result<(), Halt>
     ensures { result ≡ without_error answer }
 {
@@ -140,6 +141,8 @@ fn set_aside(answer: Result<(), WriteFault>, error: &mut Option<io::Error>) -> R
 }
 
 /// The halt that a fault is, of which the writer's own error is kept.
+#[inline(never)]
+#[cold]
 fn halt_of(fault: WriteFault, error: &mut Option<io::Error>) -> Halt
     ensures { result ≡ halt_of fault }
 {

@@ -1,6 +1,6 @@
 //! The texts of errors, and copies of them.
+use fluent_bundle_entries::{EntryKind, FluentError, ReferenceKind, ResolverError};
 use fluent_syntax::ParserError;
-use fluent_values::{EntryKind, FluentError, ReferenceKind, ResolverError};
 use std::alloc::{AllocError, Global};
 use std::test::Fail;
 

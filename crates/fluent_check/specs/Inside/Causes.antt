@@ -4,8 +4,8 @@ use Rattle.std.specs.Map.{lookup}
 use Rattle.std.specs.declared.vec.Vec.{Vec}
 use Rattle.std.proofs.Common.{Global}
 use Rattle.indexmap.specs.IndexMap.{IndexMap}
+use Rattle.fluent_patterns.specs.Found.{Found}
 use Rattle.fluent_check.specs.Causes.{Cause, cause_of, count_of, folded_views, one_if, same_cause, told_by}
-use Rattle.fluent_check.specs.Found.{Found}
 use Rattle.fluent_check.specs.declared.causes.Cause as code
 use Rattle.fluent_check.specs.declared.causes.Folded.{Folded}
 

@@ -6,13 +6,13 @@ use Rattle.std.proofs.Common.{Global}
 use Rattle.indexmap.specs.IndexMap.{IndexMap}
 use Rattle.indexmap.specs.IndexSet.{IndexSet}
 use Rattle.fluent_ast.specs.Tree.{Text}
-use Rattle.fluent_lint.specs.Asked.{texts}
-use Rattle.fluent_check.specs.Found.{found_in, spot_view}
+use Rattle.fluent_places.specs.Asked.{texts}
+use Rattle.fluent_patterns.specs.Found.{found_in, spot_view}
+use Rattle.fluent_patterns.specs.declared.finding.Finding.{Finding}
+use Rattle.fluent_patterns.specs.declared.finding.Spot as code
 use Rattle.fluent_check.specs.Repeated.{repeated_attributes}
 use Rattle.fluent_check.specs.Standing.{Standing}
 use Rattle.fluent_check.specs.Taken.{Firsts, taken}
-use Rattle.fluent_check.specs.declared.finding.Finding.{Finding}
-use Rattle.fluent_check.specs.declared.finding.Spot as code
 
 -- where the first entry of each id stands, by a table
 abbrev pub firsts_in : {S : Type 0} → IndexMap (Bor Text) code.Spot S → Firsts

@@ -5,25 +5,25 @@ use Rattle.std.specs.declared.vec.Vec.{Vec}
 use Rattle.std.proofs.Common.{Global}
 use Rattle.fluent_ast.specs.Tree.{Text}
 use Rattle.fluent_semantics.specs.Bundle.{Bundle}
-use Rattle.fluent_lint.specs.Asked.{texts}
-use Rattle.fluent_lint.specs.Clean.{Place, Names}
-use Rattle.fluent_lint.specs.declared.finding.Finding as lint
+use Rattle.fluent_places.specs.Asked.{texts}
+use Rattle.fluent_places.specs.Clean.{Place, Names}
+use Rattle.fluent_places.specs.declared.finding.Finding as lint
+use Rattle.fluent_patterns.specs.Categories.{Categories}
+use Rattle.fluent_patterns.specs.Found as found
+use Rattle.fluent_patterns.specs.Found.{found_in}
+use Rattle.fluent_patterns.specs.Terms.{TellsAskedAt}
+use Rattle.fluent_patterns.specs.declared.finding.Finding.{Finding}
 use Rattle.fluent_check.specs.Called.{with_functions}
-use Rattle.fluent_check.specs.Categories.{Categories}
 use Rattle.fluent_check.specs.Differences.{AreAllDifferences, AreDifferences}
-use Rattle.fluent_check.specs.Found as found
-use Rattle.fluent_check.specs.Found.{found_in}
 use Rattle.fluent_check.specs.Groups.{Group, entries_loaded}
 use Rattle.fluent_check.specs.Linted.{AreLinted, is_none}
 use Rattle.fluent_check.specs.Looks.{IsLook, Look, found_in_looks, none_listed}
 use Rattle.fluent_check.specs.Patterns.{called_in, found_in_patterns, found_selects}
 use Rattle.fluent_check.specs.Places.{first_at, place_of}
 use Rattle.fluent_check.specs.Standing.{Standing}
-use Rattle.fluent_check.specs.Terms.{TellsAskedAt}
 use Rattle.fluent_check.specs.Tried.{is_shown}
 use Rattle.fluent_check.specs.Whole.{found_wholes, whole_problems}
 use Rattle.fluent_check.specs.declared.checking.Settings.{Settings}
-use Rattle.fluent_check.specs.declared.finding.Finding.{Finding}
 
 -- what is wrong in the patterns of places
 pub record AddsPatterns (named there : Names Text) (functions : List Text) (c : Categories) (ss : List Standing) (old new : Vec Finding Global) : Type 0 where

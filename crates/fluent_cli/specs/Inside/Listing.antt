@@ -2,9 +2,9 @@
 use Rattle.std.specs.Prelude.{List, [], ◌∷◌, ◌++◌, flat_map, Option, Some, None}
 use Rattle.std.specs.Borrow.{Bor}
 use Rattle.fluent_ast.specs.Tree.{Text}
-use Rattle.fluent_lint.specs.Asked.{list_of, texts}
-use Rattle.fluent_lint.specs.Clean.{Place}
-use Rattle.fluent_lint.specs.declared.asked.Asked.{Asked}
+use Rattle.fluent_places.specs.Asked.{list_of, texts}
+use Rattle.fluent_places.specs.Clean.{Place}
+use Rattle.fluent_places.specs.declared.asked.Asked.{Asked}
 use Rattle.fluent_check.specs.Wording.{place_text}
 use Rattle.fluent_cli.specs.Listed.{variable_text}
 

@@ -7,7 +7,7 @@ use Rattle.fluent_check.specs.Reading.{entries_read}
 use Rattle.fluent_check.specs.declared.checking.Grouping.TheVariants.{Together}
 use Rattle.fluent_check.specs.declared.checking.Settings.{Settings}
 use Rattle.fluent_answers.specs.ArgumentView.{argument_view}
-use Rattle.fluent_lint.specs.Asked.{texts}
+use Rattle.fluent_places.specs.Asked.{texts}
 use Rattle.fluent_c_check.specs.Checks.{names_of}
 use Rattle.fluent_c_check.specs.Inside.Handed.{FindsIn, handed_view}
 use Rattle.fluent_c_check.proofs.Grouped.{grouped}

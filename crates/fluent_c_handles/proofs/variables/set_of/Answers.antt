@@ -1,6 +1,6 @@
 use Rattle.std.proofs.Common.{subst}
 use Rattle.std.proofs.lemmas.List.{take_all}
-use Rattle.fluent_lint.specs.Asked.{texts}
+use Rattle.fluent_places.specs.Asked.{texts}
 use Rattle.fluent_c_handles.specs.Inside.Gathered.{HaveSame, texts_of}
 use Rattle.fluent_c_handles.proofs.Asked.{has_more, has_none, texts_rise}
 use Rattle.fluent_c_handles.proofs.variables.set_of.Goals as goal

@@ -1,5 +1,5 @@
 use Rattle.std.proofs.Common.{take}
-use Rattle.fluent_lint.specs.Asked.{texts}
+use Rattle.fluent_places.specs.Asked.{texts}
 use Rattle.fluent_c_handles.specs.Calls.Finding.{Rise}
 use Rattle.fluent_c_handles.specs.Inside.Gathered.{HaveSame, texts_of}
 use Rattle.fluent_c_handles.proofs.variables.set_of.Given as goal

@@ -1,5 +1,5 @@
 use Rattle.std.proofs.Common.{◌≡◌, ◌++◌, drop, map}
-use Rattle.fluent_lint.specs.Asked.{texts}
+use Rattle.fluent_places.specs.Asked.{texts}
 use Rattle.fluent_check.specs.Bundles.{bundle_view, entries_of_all, resource_bundle}
 use Rattle.fluent_check.proofs.bundle.bundles_of.Given as goal
 

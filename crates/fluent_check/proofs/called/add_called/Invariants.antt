@@ -1,6 +1,6 @@
 use Rattle.std.proofs.Common.{◌≡◌, ◌++◌, drop, map}
-use Rattle.fluent_lint.specs.Asked.{texts}
-use Rattle.fluent_lint.specs.NeedsView.{need_view}
+use Rattle.fluent_places.specs.Asked.{texts}
+use Rattle.fluent_places.specs.NeedsView.{need_view}
 use Rattle.fluent_check.specs.Called.{functions_in}
 use Rattle.fluent_check.proofs.called.add_called.Given as goal
 

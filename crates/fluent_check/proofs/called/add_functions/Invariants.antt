@@ -1,5 +1,5 @@
 use Rattle.std.proofs.Common.{◌≡◌, drop}
-use Rattle.fluent_lint.specs.Asked.{texts}
+use Rattle.fluent_places.specs.Asked.{texts}
 use Rattle.fluent_check.specs.Bundles.{bundle_view}
 use Rattle.fluent_check.specs.Called.{with_functions}
 use Rattle.fluent_check.proofs.called.add_functions.Given as goal

@@ -1,6 +1,6 @@
 use Rattle.std.proofs.Common.{◌≡◌, map, take}
+use Rattle.fluent_patterns.specs.Found.{found_view}
 use Rattle.fluent_check.specs.Causes.{cause_of, count_of}
-use Rattle.fluent_check.specs.Found.{found_view}
 use Rattle.fluent_check.specs.Inside.Causes.{cause_view, number_in}
 use Rattle.fluent_check.specs.declared.causes.Cause.{Cause}
 use Rattle.fluent_check.proofs.causes.counts_of.Given as goal

@@ -1,6 +1,6 @@
 use Rattle.std.proofs.Common.{map, refl, take}
+use Rattle.fluent_patterns.specs.Found.{found_view}
 use Rattle.fluent_check.specs.Causes.{cause_of, folded, folded_views}
-use Rattle.fluent_check.specs.Found.{found_view}
 use Rattle.fluent_check.specs.Inside.Causes.{cause_view, number_in}
 use Rattle.fluent_check.proofs.Folding.{counts_more, folds_more}
 use Rattle.fluent_check.proofs.causes.fold.Goals as goal

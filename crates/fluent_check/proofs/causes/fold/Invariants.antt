@@ -1,6 +1,6 @@
 use Rattle.std.proofs.Common.{◌≡◌, ◌++◌, drop, map, take}
+use Rattle.fluent_patterns.specs.Found.{found_view}
 use Rattle.fluent_check.specs.Causes.{cause_of, folded, folded_from, folded_views}
-use Rattle.fluent_check.specs.Found.{found_view}
 use Rattle.fluent_check.specs.Inside.Causes.{AreCounts}
 use Rattle.fluent_check.proofs.causes.fold.Given as goal
 

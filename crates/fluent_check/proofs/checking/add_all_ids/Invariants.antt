@@ -1,6 +1,6 @@
 use Rattle.std.proofs.Common.{◌≡◌, ◌++◌, drop, map}
+use Rattle.fluent_patterns.specs.Found.{found_in}
 use Rattle.fluent_check.specs.Faults.{ids_of}
-use Rattle.fluent_check.specs.Found.{found_in}
 use Rattle.fluent_check.specs.ReadFiles.{file_view}
 use Rattle.fluent_check.proofs.checking.add_all_ids.Given as goal
 

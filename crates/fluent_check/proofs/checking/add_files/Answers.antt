@@ -1,7 +1,7 @@
 use Rattle.std.proofs.Common.{◌≡◌, ◌∙◌, ap, codes, map}
-use Rattle.fluent_lint.specs.Clean.{names_of}
+use Rattle.fluent_places.specs.Clean.{names_of}
+use Rattle.fluent_patterns.specs.CategoryView.{categories_view}
 use Rattle.fluent_check.specs.Bundles.{bundle_view}
-use Rattle.fluent_check.specs.CategoryView.{categories_view}
 use Rattle.fluent_check.specs.Differences.{reference_names}
 use Rattle.fluent_check.specs.Groups.{entries_loaded, group_view, loaded}
 use Rattle.fluent_check.specs.Languages.{all_of}

@@ -1,9 +1,9 @@
 use Rattle.std.proofs.Common.{◌≡◌, ◌∙◌, ◌++◌, ap, map, subst}
-use Rattle.fluent_lint.specs.Asked.{texts}
-use Rattle.fluent_lint.specs.Clean.{names_of}
+use Rattle.fluent_places.specs.Asked.{texts}
+use Rattle.fluent_places.specs.Clean.{names_of}
+use Rattle.fluent_patterns.specs.Found.{found_in}
 use Rattle.fluent_check.specs.Bundles.{bundle_view}
 use Rattle.fluent_check.specs.Called.{with_functions}
-use Rattle.fluent_check.specs.Found.{found_in}
 use Rattle.fluent_check.specs.Groups.{entries_loaded, group_view}
 use Rattle.fluent_check.specs.Inside.Places.{place_found}
 use Rattle.fluent_check.specs.Linted.{AreLinted, NoneFails}

@@ -1,5 +1,5 @@
 use Rattle.std.proofs.Common.{[], map}
-use Rattle.fluent_check.specs.Found.{found_in}
+use Rattle.fluent_patterns.specs.Found.{found_in}
 use Rattle.fluent_check.specs.Repeated.{function_ids, repeated_attributes}
 use Rattle.fluent_check.specs.Standing.{standing_view}
 use Rattle.fluent_check.specs.Taken.{taken}

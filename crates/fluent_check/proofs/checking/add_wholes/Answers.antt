@@ -1,4 +1,4 @@
-use Rattle.fluent_check.specs.Found.{found_in}
+use Rattle.fluent_patterns.specs.Found.{found_in}
 use Rattle.fluent_check.specs.Inside.Places.{place_found}
 use Rattle.fluent_check.proofs.Looking.{wholes_more}
 use Rattle.fluent_check.proofs.checking.add_wholes.Goals as goal

@@ -1,5 +1,5 @@
 use Rattle.std.proofs.Common.{◌≡◌, ◌++◌, drop}
-use Rattle.fluent_check.specs.Found.{found_in}
+use Rattle.fluent_patterns.specs.Found.{found_in}
 use Rattle.fluent_check.specs.Inside.Places.{place_found}
 use Rattle.fluent_check.specs.Whole.{found_wholes, wholes}
 use Rattle.fluent_check.proofs.checking.add_wholes.Given as goal

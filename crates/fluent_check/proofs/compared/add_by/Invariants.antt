@@ -1,8 +1,8 @@
 use Rattle.std.proofs.Common.{◌≡◌, ◌++◌, drop, map}
-use Rattle.fluent_lint.specs.Asked.{texts}
-use Rattle.fluent_lint.specs.NeedsView.{need_view}
+use Rattle.fluent_places.specs.Asked.{texts}
+use Rattle.fluent_places.specs.NeedsView.{need_view}
+use Rattle.fluent_patterns.specs.Found.{flaws_in}
 use Rattle.fluent_check.specs.Compared.{firsts, flaws_by, told_from}
-use Rattle.fluent_check.specs.Found.{flaws_in}
 use Rattle.fluent_check.proofs.compared.add_by.Given as goal
 
 abbrev pub invariant-loop-number : goal.invariant-loop-number

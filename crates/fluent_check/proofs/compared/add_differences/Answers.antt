@@ -1,15 +1,15 @@
 use Rattle.std.proofs.Common.{◌≡◌, ◌++◌, ap, map, ◌∙◌}
 use Rattle.std.specs.List.{filter_map}
 use Rattle.fluent_ast.specs.View.{pattern_view}
-use Rattle.fluent_lint.specs.Asked.{texts}
-use Rattle.fluent_lint.specs.Clean.{views}
-use Rattle.fluent_lint.specs.NeedsView.{need_view}
+use Rattle.fluent_places.specs.Asked.{texts}
+use Rattle.fluent_places.specs.Clean.{views}
+use Rattle.fluent_places.specs.NeedsView.{need_view}
+use Rattle.fluent_patterns.specs.Found.{flaws_in}
+use Rattle.fluent_patterns.specs.Names.{once}
+use Rattle.fluent_patterns.specs.Shown.{shown}
+use Rattle.fluent_patterns.specs.declared.shown.Wanted.TheVariants.{Functions}
 use Rattle.fluent_check.specs.Among.{is_in}
 use Rattle.fluent_check.specs.Compared.{flaws_by, function_of, of_functions_left_out, of_terms_left_out, of_unknown_variables, references, term_of, variables_left_out}
-use Rattle.fluent_check.specs.Found.{flaws_in}
-use Rattle.fluent_check.specs.Names.{once}
-use Rattle.fluent_check.specs.Shown.{shown}
-use Rattle.fluent_check.specs.declared.shown.Wanted.TheVariants.{Functions}
 use Rattle.fluent_check.proofs.Naming.{chained_ok, functions_same, terms_same}
 use Rattle.fluent_check.proofs.compared.add_differences.Goals as goal
 

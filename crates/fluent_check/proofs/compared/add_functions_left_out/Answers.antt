@@ -1,8 +1,8 @@
 use Rattle.std.proofs.Common.{OnOk, map, subst}
-use Rattle.fluent_lint.specs.Asked.{texts}
-use Rattle.fluent_lint.specs.NeedsView.{need_view}
+use Rattle.fluent_places.specs.Asked.{texts}
+use Rattle.fluent_places.specs.NeedsView.{need_view}
+use Rattle.fluent_patterns.specs.Found.{AddsFlaws}
 use Rattle.fluent_check.specs.Compared.{flaws_by, of_functions_left_out}
-use Rattle.fluent_check.specs.Found.{AddsFlaws}
 use Rattle.fluent_check.proofs.compared.add_functions_left_out.Goals as goal
 
 pub returns : goal.returns

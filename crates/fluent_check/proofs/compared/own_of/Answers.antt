@@ -1,4 +1,4 @@
-use Rattle.fluent_lint.specs.NeedsView.{need_view}
+use Rattle.fluent_places.specs.NeedsView.{need_view}
 use Rattle.fluent_check.specs.Compared.{function_of, term_of}
 use Rattle.fluent_check.proofs.Naming.{has_all, has_no_name, has_so_far, of_more}
 use Rattle.fluent_check.proofs.compared.own_of.Goals as goal

@@ -1,6 +1,6 @@
 use Rattle.std.proofs.Common.{map, take}
 use Rattle.std.specs.List.{filter_map}
-use Rattle.fluent_lint.specs.NeedsView.{need_view}
+use Rattle.fluent_places.specs.NeedsView.{need_view}
 use Rattle.fluent_check.specs.Compared.{function_of, term_of}
 use Rattle.fluent_check.specs.Inside.Names.{HasNames}
 use Rattle.fluent_check.proofs.compared.own_of.Given as goal

@@ -1,8 +1,8 @@
 use Rattle.std.proofs.Common.{◌≡◌, ap, filter, map, ◌∙◌}
 use Rattle.std.proofs.lemmas.List.{take_all}
 use Rattle.fluent_ast.specs.View.{pattern_view}
-use Rattle.fluent_lint.specs.Clean.{needs}
-use Rattle.fluent_lint.specs.NeedsView.{need_view, needs_view}
+use Rattle.fluent_places.specs.Clean.{needs}
+use Rattle.fluent_places.specs.NeedsView.{need_view, needs_view}
 use Rattle.fluent_check.specs.Compared.{is_reference}
 use Rattle.fluent_check.proofs.Naming.{kept_more}
 use Rattle.fluent_check.proofs.compared.references_of.Goals as goal

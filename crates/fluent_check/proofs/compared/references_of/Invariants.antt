@@ -1,5 +1,5 @@
 use Rattle.std.proofs.Common.{◌≡◌, filter, map, take}
-use Rattle.fluent_lint.specs.NeedsView.{need_view, needs_view}
+use Rattle.fluent_places.specs.NeedsView.{need_view, needs_view}
 use Rattle.fluent_check.specs.Compared.{is_reference}
 use Rattle.fluent_check.proofs.compared.references_of.Given as goal
 

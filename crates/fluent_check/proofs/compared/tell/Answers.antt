@@ -1,9 +1,9 @@
 use Rattle.std.proofs.Common.{ap, sym, subst}
 use Rattle.std.specs.Option.{option_map}
 use Rattle.std.specs.Result.{OnOk}
-use Rattle.fluent_lint.specs.Asked.{texts}
+use Rattle.fluent_places.specs.Asked.{texts}
+use Rattle.fluent_patterns.specs.Found.{flaws_in}
 use Rattle.fluent_check.specs.Compared.{told_view}
-use Rattle.fluent_check.specs.Found.{flaws_in}
 use Rattle.fluent_check.specs.Inside.Names.{TellsOnce}
 use Rattle.fluent_check.proofs.Naming.{told_none}
 use Rattle.fluent_check.proofs.compared.tell.Goals as goal

@@ -1,8 +1,8 @@
 use Rattle.std.proofs.Common.{ap, map, refl, sym, ◌∙◌}
 use Rattle.std.proofs.lemmas.List.{map-append}
-use Rattle.fluent_lint.specs.Asked.{texts}
+use Rattle.fluent_places.specs.Asked.{texts}
+use Rattle.fluent_patterns.specs.Found.{flaw_view, flaws_in}
 use Rattle.fluent_check.specs.Compared.{told_view}
-use Rattle.fluent_check.specs.Found.{flaw_view, flaws_in}
 use Rattle.fluent_check.proofs.Naming.{new_name, told_again, told_first}
 use Rattle.fluent_check.proofs.compared.tell_once.Goals as goal
 

@@ -1,8 +1,8 @@
 use Rattle.std.proofs.Common.{◌≡◌, ◌++◌, drop, map}
-use Rattle.fluent_lint.specs.Clean.{names_of}
+use Rattle.fluent_places.specs.Clean.{names_of}
+use Rattle.fluent_patterns.specs.CategoryView.{categories_view}
+use Rattle.fluent_patterns.specs.Found.{found_in}
 use Rattle.fluent_check.specs.Bundles.{bundle_view}
-use Rattle.fluent_check.specs.CategoryView.{categories_view}
-use Rattle.fluent_check.specs.Found.{found_in}
 use Rattle.fluent_check.specs.Patterns.{found_selects}
 use Rattle.fluent_check.specs.Standing.{standing_view}
 use Rattle.fluent_check.proofs.patterns.add_selects.Given as goal

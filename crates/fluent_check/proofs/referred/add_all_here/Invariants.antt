@@ -1,6 +1,6 @@
 use Rattle.std.proofs.Common.{◌≡◌, ◌++◌, drop, map}
+use Rattle.fluent_patterns.specs.Found.{found_in}
 use Rattle.fluent_check.specs.Differences.{all_here, edition_view}
-use Rattle.fluent_check.specs.Found.{found_in}
 use Rattle.fluent_check.specs.Standing.{standing_view}
 use Rattle.fluent_check.proofs.referred.add_all_here.Given as goal
 

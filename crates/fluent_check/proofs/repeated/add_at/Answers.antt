@@ -1,6 +1,6 @@
 use Rattle.std.proofs.Common.{◌++◌, ◌∷◌, [], ◌∙◌, ap, map, not}
 use Rattle.std.proofs.lemmas.List.{map-append}
-use Rattle.fluent_check.specs.Found.{found_in, found_view}
+use Rattle.fluent_patterns.specs.Found.{found_in, found_view}
 use Rattle.fluent_check.specs.Standing.{standing_view}
 use Rattle.fluent_check.proofs.RepeatedNames.{among, name_again, name_noted}
 use Rattle.fluent_check.proofs.repeated.add_at.Goals as goal

@@ -1,5 +1,5 @@
 use Rattle.std.proofs.Common.{◌≡◌, ◌++◌, drop, map}
-use Rattle.fluent_check.specs.Found.{found_in}
+use Rattle.fluent_patterns.specs.Found.{found_in}
 use Rattle.fluent_check.specs.Repeated.{function_ids}
 use Rattle.fluent_check.specs.Standing.{standing_view}
 use Rattle.fluent_check.proofs.repeated.add_function_ids.Given as goal

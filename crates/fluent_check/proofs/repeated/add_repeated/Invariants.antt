@@ -1,6 +1,6 @@
 use Rattle.std.proofs.Common.{◌≡◌, [], ◌++◌, drop, map}
-use Rattle.fluent_lint.specs.Asked.{texts}
-use Rattle.fluent_check.specs.Found.{found_in}
+use Rattle.fluent_places.specs.Asked.{texts}
+use Rattle.fluent_patterns.specs.Found.{found_in}
 use Rattle.fluent_check.specs.Repeated.{repeated_attributes}
 use Rattle.fluent_check.specs.Standing.{standing_view}
 use Rattle.fluent_check.proofs.repeated.add_repeated.Given as goal

@@ -1,5 +1,5 @@
 use Rattle.std.proofs.Common.{◌≡◌, ◌++◌, drop}
-use Rattle.fluent_lint.specs.Clean.{views}
+use Rattle.fluent_places.specs.Clean.{views}
 use Rattle.fluent_check.specs.Sites.{sites_at}
 use Rattle.fluent_check.specs.SiteView.{site_views}
 use Rattle.fluent_check.proofs.sites.add_sites.Given as goal

@@ -1,5 +1,5 @@
 use Rattle.std.proofs.Common.{ap, ◌∙◌}
-use Rattle.fluent_lint.specs.Clean.{views}
+use Rattle.fluent_places.specs.Clean.{views}
 use Rattle.fluent_check.specs.SiteView.{site_views}
 use Rattle.fluent_check.proofs.EntrySites.{sites-step}
 use Rattle.fluent_check.proofs.sites.sites_from.Goals as goal

@@ -1,5 +1,5 @@
 use Rattle.std.proofs.Common.{◌≡◌, ◌++◌, drop, map}
-use Rattle.fluent_check.specs.Found.{flaw_view, found_in}
+use Rattle.fluent_patterns.specs.Found.{flaw_view, found_in}
 use Rattle.fluent_check.specs.Standing.{flaws_at, standing_view}
 use Rattle.fluent_check.proofs.standing.add_flaws.Given as goal
 

@@ -1,4 +1,4 @@
-use Rattle.fluent_check.specs.Found.{found_in}
+use Rattle.fluent_patterns.specs.Found.{found_in}
 use Rattle.fluent_check.specs.Standing.{standing_view}
 use Rattle.fluent_check.proofs.TakenIds.{id_noted}
 use Rattle.fluent_check.proofs.taken.add_at.Goals as goal

@@ -1,5 +1,5 @@
 use Rattle.std.proofs.Common.{◌≡◌, [], ◌++◌, drop, map}
-use Rattle.fluent_check.specs.Found.{found_in}
+use Rattle.fluent_patterns.specs.Found.{found_in}
 use Rattle.fluent_check.specs.Inside.Ids.{firsts_in}
 use Rattle.fluent_check.specs.Standing.{standing_view}
 use Rattle.fluent_check.specs.Taken.{taken}

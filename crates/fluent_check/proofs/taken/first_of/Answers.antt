@@ -1,6 +1,6 @@
 use Rattle.std.proofs.Common.{ap, ◌∙◌}
 use Rattle.std.specs.Option.{option_map}
-use Rattle.fluent_check.specs.Found.{spot_view}
+use Rattle.fluent_patterns.specs.Found.{spot_view}
 use Rattle.fluent_check.proofs.TakenIds.{noted_first}
 use Rattle.fluent_check.proofs.taken.first_of.Goals as goal
 

@@ -1,8 +1,9 @@
 use Rattle.std.proofs.Common.{◌≡◌, drop, map}
 use Rattle.std.specs.List.{list_any}
 use Rattle.fluent_ast.specs.View.{pattern_view}
+use Rattle.fluent_patterns.specs.Choices.{choices_in}
 use Rattle.fluent_check.specs.Bundles.{bundle_view}
-use Rattle.fluent_check.specs.Tried.{choices_in, given, reaches_limit}
+use Rattle.fluent_check.specs.Tried.{given, reaches_limit}
 use Rattle.fluent_check.proofs.tried.is_shown_by.Given as goal
 
 abbrev pub invariant-loop-choice : goal.invariant-loop-choice

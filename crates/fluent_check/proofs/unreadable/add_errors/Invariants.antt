@@ -1,6 +1,6 @@
 use Rattle.std.proofs.Common.{◌≡◌, ◌++◌, drop, map}
 use Rattle.fluent_syntax.specs.Parsed.{error_range}
-use Rattle.fluent_check.specs.Found.{found_in}
+use Rattle.fluent_patterns.specs.Found.{found_in}
 use Rattle.fluent_check.specs.Unreadable.{unreadable_in}
 use Rattle.fluent_check.proofs.unreadable.add_errors.Given as goal
 

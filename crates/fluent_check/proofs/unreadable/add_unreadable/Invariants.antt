@@ -1,5 +1,5 @@
 use Rattle.std.proofs.Common.{◌≡◌, ◌++◌, drop, map}
-use Rattle.fluent_check.specs.Found.{found_in}
+use Rattle.fluent_patterns.specs.Found.{found_in}
 use Rattle.fluent_check.specs.ReadFiles.{file_view}
 use Rattle.fluent_check.specs.Unreadable.{unreadable}
 use Rattle.fluent_check.proofs.unreadable.add_unreadable.Given as goal

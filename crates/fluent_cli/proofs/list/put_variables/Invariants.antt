@@ -1,5 +1,5 @@
 use Rattle.std.proofs.Common.{◌≡◌, ◌++◌, drop, flat_map, string_bytes}
-use Rattle.fluent_lint.specs.Asked.{texts}
+use Rattle.fluent_places.specs.Asked.{texts}
 use Rattle.fluent_cli.specs.Listed.{variable_text}
 use Rattle.fluent_cli.proofs.list.put_variables.Given as goal
 

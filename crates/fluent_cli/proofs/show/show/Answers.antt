@@ -1,5 +1,5 @@
 use Rattle.std.proofs.Common.{◌≡◌, ◌∙◌, ◌++◌, ap, map, rules, string_bytes, subst}
-use Rattle.fluent_lint.specs.Asked.{texts}
+use Rattle.fluent_places.specs.Asked.{texts}
 use Rattle.fluent_fallback.specs.Chain.{bundles_of}
 use Rattle.fluent_resolver_state.specs.Status.{reported}
 use Rattle.fluent_check.specs.Reading.{entries_read}

@@ -1,5 +1,5 @@
 use Rattle.std.proofs.Common.{◌≡◌, map, take}
-use Rattle.fluent_check.specs.Found.{found_view}
+use Rattle.fluent_patterns.specs.Found.{found_view}
 use Rattle.fluent_check.specs.Lined.{lined_views}
 use Rattle.fluent_cli_report.specs.Kept.{row_views}
 use Rattle.fluent_cli_report.specs.Rows.{row_of}

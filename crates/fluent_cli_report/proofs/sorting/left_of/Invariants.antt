@@ -1,5 +1,5 @@
 use Rattle.std.proofs.Common.{◌≡◌, ◌++◌, drop, map}
-use Rattle.fluent_check.specs.Found.{found_in, found_view}
+use Rattle.fluent_patterns.specs.Found.{found_in, found_view}
 use Rattle.fluent_cli_report.specs.Rows.{left_of}
 use Rattle.fluent_cli_report.proofs.sorting.left_of.Given as goal
 

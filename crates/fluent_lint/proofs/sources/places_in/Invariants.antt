@@ -1,6 +1,6 @@
 use Rattle.std.proofs.Common.{◌≡◌, take}
-use Rattle.fluent_lint.specs.Clean.{views}
-use Rattle.fluent_lint.specs.Findings.{places_in_resources}
+use Rattle.fluent_places.specs.Clean.{views}
+use Rattle.fluent_lint.specs.Lints.{places_in_resources}
 use Rattle.fluent_lint.proofs.sources.places_in.Given as goal
 
 abbrev pub invariant-loop-resource : goal.invariant-loop-resource

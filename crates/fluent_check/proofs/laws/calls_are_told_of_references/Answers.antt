@@ -1,5 +1,0 @@
-use Rattle.fluent_check.proofs.CallsNumbered.{as_many}
-use Rattle.fluent_check.proofs.laws.calls_are_told_of_references.Goals as goal
-
-pub returns : goal.returns
-returns c = as_many

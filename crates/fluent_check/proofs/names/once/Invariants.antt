@@ -1,9 +1,0 @@
-use Rattle.std.proofs.Common.{◌≡◌, drop}
-use Rattle.indexmap.specs.IndexSet.{insert_all}
-use Rattle.fluent_semantics.specs.Number.{is_text}
-use Rattle.fluent_lint.specs.Asked.{texts}
-use Rattle.fluent_check.specs.Names.{once}
-use Rattle.fluent_check.proofs.names.once.Given as goal
-
-abbrev pub invariant-loop-name : goal.invariant-loop-name
-invariant-loop-name l = insert_all is_text (texts l.set.keys) (texts (drop l.name-index l.names)) ≡ once (texts l.names)

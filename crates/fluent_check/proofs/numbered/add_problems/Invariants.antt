@@ -1,9 +1,0 @@
-use Rattle.std.proofs.Common.{◌≡◌, ◌++◌, drop, map}
-use Rattle.fluent_check.specs.Found.{flaws_in, problem_view}
-use Rattle.fluent_check.specs.Numbered.{at_reference}
-use Rattle.fluent_check.proofs.numbered.add_problems.Given as goal
-
-abbrev pub invariant-loop-problem : goal.invariant-loop-problem
-invariant-loop-problem l =
-    flaws_in l.flaws ++ at_reference l.number (map problem_view (drop l.problem-index l.problems))
-    ≡ flaws_in l.initial.flaws ++ at_reference l.number (map problem_view l.problems)

@@ -1,6 +1,0 @@
-use Rattle.std.proofs.Common.{◌∙◌}
-use Rattle.fluent_check.proofs.Senses.{among}
-use Rattle.fluent_check.proofs.sense.is_among.Goals as goal
-
-pub returns : goal.returns
-returns c = c.contains.ensures ∙ among c.args.sense.now c.args.senses.now.keys

@@ -1,9 +1,0 @@
-use Rattle.std.proofs.Common.{◌≡◌, ◌++◌, drop}
-use Rattle.fluent_ast.specs.References.{nameds_view}
-use Rattle.fluent_lint.specs.Asked.{texts}
-use Rattle.fluent_lint.specs.Clean.{names_in}
-use Rattle.fluent_check.proofs.terms.names_in.Given as goal
-
-abbrev pub invariant-loop-argument : goal.invariant-loop-argument
-invariant-loop-argument l =
-    texts l.names.items ++ names_in (nameds_view (drop l.argument-index l.named)) ≡ names_in (nameds_view l.named)

@@ -1,6 +1,0 @@
-use Rattle.fluent_lint.specs.Clean.{views}
-use Rattle.fluent_check.proofs.Told.{all_told}
-use Rattle.fluent_check.proofs.terms.terms_at.Goals as goal
-
-pub returns-clause-asked : goal.returns-clause-asked
-returns-clause-asked g c = all_told (g.B.GetEntry.named c.args.bundle.now) c.in_ok-asked.asked (views c.args.places.now) c.in_ok-asked.ensures

@@ -1,7 +1,0 @@
-use Rattle.std.proofs.Common.{◌≡◌, ◌++◌, drop, map}
-use Rattle.fluent_ast.specs.View.{attribute_view}
-use Rattle.fluent_lint.specs.Clean.{of_message, views, attribute_places}
-use Rattle.fluent_lint.proofs.entries.add_of_message.Given as goal
-
-abbrev pub invariant-loop-attribute : goal.invariant-loop-attribute
-invariant-loop-attribute l = views l.places.items ++ attribute_places (of_message l.id.name.now) (map attribute_view (drop l.attribute-index l.attributes)) ≡ views l.initial.places.items ++ attribute_places (of_message l.id.name.now) (map attribute_view l.attributes)

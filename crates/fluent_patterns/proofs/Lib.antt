@@ -1,0 +1,12 @@
+pub mod CallsNumbered
+pub mod CategoryNumbers
+pub mod Inserted
+pub mod Kept
+pub mod KeyTests
+pub mod KeysRead
+pub mod Lacking
+pub mod Selecting
+pub mod Senses
+pub mod Steps
+pub mod Told
+pub mod Walked

@@ -1,0 +1,12 @@
+use Rattle.std.proofs.Common.{◌≡◌, ◌++◌, drop, map}
+use Rattle.fluent_places.specs.Asked.{texts}
+use Rattle.fluent_places.specs.NeedsView.{need_view}
+use Rattle.fluent_patterns.specs.Found.{flaws_in}
+use Rattle.fluent_patterns.specs.Numbered.{flaws_from}
+use Rattle.fluent_patterns.specs.Missing.{problems_of}
+use Rattle.fluent_patterns.proofs.missing.add_missing.Given as goal
+
+abbrev pub invariant-loop-number : goal.invariant-loop-number
+invariant-loop-number g l =
+    flaws_in l.flaws ++ flaws_from (problems_of (g.B.GetEntry.named l.bundle) (texts l.functions)) l.number (map need_view (drop l.number l.need-items))
+    ≡ flaws_in l.initial.flaws ++ flaws_from (problems_of (g.B.GetEntry.named l.bundle) (texts l.functions)) 0 (map need_view l.need-items)

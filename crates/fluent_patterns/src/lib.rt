@@ -1,0 +1,28 @@
+//! What can be wrong in a pattern, by itself and by what its ids name.
+#![tactic(auto)]
+
+mod categories;
+mod choices;
+pub mod examples;
+mod finding;
+pub mod laws;
+mod marks;
+mod missing;
+mod names;
+mod numbered;
+mod numbers;
+mod problem;
+mod selects;
+mod sense;
+mod shown;
+mod terms;
+
+pub use categories::{Categories, Category, categories_of, no_categories};
+pub use choices::{Choice, choices_of, tried};
+pub use finding::{Finding, Flaw, Part, Problem, Spot};
+pub use marks::{Mark, What, marks_of};
+pub use missing::add_missing;
+pub use numbers::add_no_numbers;
+pub use selects::add_select_flaws;
+pub use shown::{Wanted, shown_in};
+pub use terms::{Terms, add_term_flaws, terms_at};

@@ -1,0 +1,55 @@
+-- Lists of needs, one after the other.
+use Rattle.std.proofs.Common.{◌≡◌, ℕ, ◌+◌, ◌<◌, ◌≤◌, List, [], ◌∷◌, ◌++◌, length, get_or, drop, map, refl, sym, ap, ◌∙◌, rules}
+use Rattle.std.proofs.lemmas.List.{append_assoc, append-nil, map-append, at_drop_more, at_drop_all}
+use Rattle.fluent_ast.specs.Tree.{pattern_of}
+use Rattle.fluent_ast.specs.View.{element_view, inline_view, pattern_view}
+use Rattle.fluent_ast.specs.References.{inlines_view, nameds_view, variants_view}
+use Rattle.fluent_places.specs.Clean.{Need, needs, in_element, in_variants, in_inline, in_positional, in_named}
+use Rattle.fluent_places.specs.NeedsView.{need_view}
+use Rattle.fluent_places.specs.declared.listing.Need as code
+use Rattle.fluent_ast.specs.declared.ast.Expression.{the_lemmas}
+use Rattle.fluent_ast.specs.declared.ast.InlineExpression.{InlineExpression}
+use Rattle.fluent_ast.specs.declared.ast.NamedArgument.{NamedArgument, out-NamedArgument}
+use Rattle.fluent_ast.specs.declared.ast.PatternElement.{PatternElement}
+use Rattle.fluent_ast.specs.declared.ast.Variant.{Variant, out-Variant}
+
+-- a list to which one is pushed
+pub pushed : (old new : List code.Need) (r : code.Need) → new ≡ old ++ r ∷ [] → map need_view new ≡ map need_view old ++ need_view r ∷ []
+pushed old new r e = ap (map need_view) e ∙ map-append need_view old (r ∷ [])
+
+-- what is left of a list's parts after one more
+one_more : {A : Type 0} (all : List A → List Need) (one : A → List Need) → ((x : A) (xs : List A) → all (x ∷ xs) ≡ one x ++ all xs)
+    → (xs : List A) (i : ℕ) (x : A) (old new whole : List Need) → i < length xs → x ≡ get_or xs i x → old ++ all (drop i xs) ≡ whole → new ≡ old ++ one x → new ++ all (drop (i + 1) xs) ≡ whole
+one_more all one each xs i x old new whole h is e added =
+    ap (λ w. w ++ all (drop (i + 1) xs)) added ∙ (append_assoc old (one x) (all (drop (i + 1) xs)) ∙ (ap (λ w. old ++ w) (sym (at_drop_more all xs i x h ∙ (ap (λ w. all (w ∷ drop (i + 1) xs)) (sym is) ∙ each x (drop (i + 1) xs)))) ∙ e))
+
+-- nothing is left of them at the end
+none_left : {A : Type 0} (all : List A → List Need) → all [] ≡ [] → (xs : List A) (i : ℕ) (old whole : List Need) → length xs ≤ i → old ++ all (drop i xs) ≡ whole → old ≡ whole
+none_left all nil xs i old whole h e = sym (append-nil old) ∙ (ap (λ w. old ++ w) (sym (at_drop_all all xs i h ∙ nil)) ∙ e)
+
+abbrev in_elements : List PatternElement → List Need
+in_elements xs = needs (pattern_of (map element_view xs))
+
+pub element_more : (xs : List PatternElement) (i : ℕ) (x : PatternElement) (old new whole : List Need) → i < length xs → x ≡ get_or xs i x → old ++ in_elements (drop i xs) ≡ whole → new ≡ old ++ in_element (element_view x) → new ++ in_elements (drop (i + 1) xs) ≡ whole
+element_more = one_more in_elements (λ x. in_element (element_view x)) (λ x xs. refl)
+
+pub elements_end : (xs : List PatternElement) (i : ℕ) (old whole : List Need) → length xs ≤ i → old ++ in_elements (drop i xs) ≡ whole → old ≡ whole
+elements_end = none_left in_elements refl
+
+pub variant_more : (xs : List Variant) (i : ℕ) (x : Variant) (old new whole : List Need) → i < length xs → x ≡ get_or xs i x → old ++ in_variants (variants_view (drop i xs)) ≡ whole → new ≡ old ++ needs (pattern_view (out-Variant x).value) → new ++ in_variants (variants_view (drop (i + 1) xs)) ≡ whole
+variant_more = one_more (λ xs. in_variants (variants_view xs)) (λ x. needs (pattern_view (out-Variant x).value)) (λ x xs. search (rules, the_lemmas))
+
+pub variants_end : (xs : List Variant) (i : ℕ) (old whole : List Need) → length xs ≤ i → old ++ in_variants (variants_view (drop i xs)) ≡ whole → old ≡ whole
+variants_end = none_left (λ xs. in_variants (variants_view xs)) refl
+
+pub positional_more : (xs : List InlineExpression) (i : ℕ) (x : InlineExpression) (old new whole : List Need) → i < length xs → x ≡ get_or xs i x → old ++ in_positional (inlines_view (drop i xs)) ≡ whole → new ≡ old ++ in_inline (inline_view x) → new ++ in_positional (inlines_view (drop (i + 1) xs)) ≡ whole
+positional_more = one_more (λ xs. in_positional (inlines_view xs)) (λ x. in_inline (inline_view x)) (λ x xs. refl)
+
+pub positional_end : (xs : List InlineExpression) (i : ℕ) (old whole : List Need) → length xs ≤ i → old ++ in_positional (inlines_view (drop i xs)) ≡ whole → old ≡ whole
+positional_end = none_left (λ xs. in_positional (inlines_view xs)) refl
+
+pub named_more : (xs : List NamedArgument) (i : ℕ) (x : NamedArgument) (old new whole : List Need) → i < length xs → x ≡ get_or xs i x → old ++ in_named (nameds_view (drop i xs)) ≡ whole → new ≡ old ++ in_inline (inline_view (out-NamedArgument x).value) → new ++ in_named (nameds_view (drop (i + 1) xs)) ≡ whole
+named_more = one_more (λ xs. in_named (nameds_view xs)) (λ x. in_inline (inline_view (out-NamedArgument x).value)) (λ x xs. search (rules, the_lemmas))
+
+pub named_end : (xs : List NamedArgument) (i : ℕ) (old whole : List Need) → length xs ≤ i → old ++ in_named (nameds_view (drop i xs)) ≡ whole → old ≡ whole
+named_end = none_left (λ xs. in_named (nameds_view xs)) refl

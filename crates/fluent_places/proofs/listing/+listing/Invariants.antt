@@ -1,0 +1,27 @@
+use Rattle.std.proofs.Common.{◌≡◌, ◌++◌, drop, map}
+use Rattle.fluent_ast.specs.Tree.{pattern_of}
+use Rattle.fluent_ast.specs.View.{element_view}
+use Rattle.fluent_ast.specs.References.{variants_view, inlines_view, nameds_view}
+use Rattle.fluent_places.specs.Clean.{needs, in_variants, in_positional, in_named}
+use Rattle.fluent_places.specs.NeedsView.{needs_view}
+use Rattle.fluent_places.proofs.listing.+listing.Given as goal
+
+abbrev pub invariant-add_pattern-loop-element : goal.invariant-add_pattern-loop-element
+invariant-add_pattern-loop-element l =
+    let left = needs (pattern_of (map element_view (drop l.element-index l.element-items))) in
+    needs_view l.list ++ left ≡ needs_view l.initial.list ++ needs (pattern_of (map element_view l.element-items))
+
+abbrev pub invariant-add_variants-loop-variant : goal.invariant-add_variants-loop-variant
+invariant-add_variants-loop-variant l =
+    let left = in_variants (variants_view (drop l.variant-index l.variants)) in
+    needs_view l.list ++ left ≡ needs_view l.initial.list ++ in_variants (variants_view l.variants)
+
+abbrev pub invariant-add_positional-loop-argument : goal.invariant-add_positional-loop-argument
+invariant-add_positional-loop-argument l =
+    let left = in_positional (inlines_view (drop l.argument-index l.positional)) in
+    needs_view l.list ++ left ≡ needs_view l.initial.list ++ in_positional (inlines_view l.positional)
+
+abbrev pub invariant-add_named-loop-argument : goal.invariant-add_named-loop-argument
+invariant-add_named-loop-argument l =
+    let left = in_named (nameds_view (drop l.argument-index l.named)) in
+    needs_view l.list ++ left ≡ needs_view l.initial.list ++ in_named (nameds_view l.named)

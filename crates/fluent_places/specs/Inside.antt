@@ -1,0 +1,5 @@
+pub mod Table
+pub mod Listing
+pub mod Steps
+pub mod Reached
+pub mod Sharing
