@@ -129,8 +129,7 @@ pub fn put_unescaped<W: Write>(alloc: Global, out: &mut Output<W>, value: &str) 
     }
 }
 
-/// An answer without the writer's own error, which is kept. It is part of its callers, as an answer has some hundred bytes.
-#[inline(always)]
+/// An answer without the writer's own error, which is kept.
 fn set_aside(answer: Result<(), WriteFault>, error: &mut Option<io::Error>) -> Result<(), Halt>
     ensures { result ≡ without_error answer }
 {
