@@ -1,10 +1,10 @@
 //! Texts in the languages that somebody reads.
 use crate::showing::show_errors;
-use anyhow::Result;
+use anyhow::{Context, Result};
 use fluent_bundle::{
     FluentArgs, FluentBundle, FluentResource, FluentValue, NoCustom, NoFormatter, NoFunction,
 };
-use fluent_catalog::{Catalog, Report, add_source, plurals_for, read_source};
+use fluent_catalog::{Catalog, Report, add_source, read_source};
 use fluent_langneg::negotiate;
 use fluent_plural_rules::RuleTexts;
 use std::borrow::CowStr;
@@ -54,7 +54,7 @@ fn show_from<'s>(
 ) -> Result<()> {
     let mut catalog = Catalog::new(rt.alloc());
     for (tag, resource) in resources {
-        let plurals = plurals_for(rt.alloc(), *tag)?;
+        let plurals = RuleTexts::of_language(*tag).context("no such language")?;
         let mut texts: Texts<'_, 's> = FluentBundle::new(rt.alloc(), Vec::new(rt.alloc()), plurals);
         add_source(&mut texts, *tag, resource, &mut reports)?;
         catalog.push(*tag, texts)?;

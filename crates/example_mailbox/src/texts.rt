@@ -5,7 +5,7 @@ use crate::letters::show_letters;
 use crate::pseudo::Pseudo;
 use anyhow::{Context, Result};
 use fluent_bundle::{FluentBundle, FluentResource};
-use fluent_catalog::{Catalog, Report, add_source, plurals_for};
+use fluent_catalog::{Catalog, Report, add_source};
 use fluent_plural_rules::RuleTexts;
 use std::fmt::Display;
 
@@ -25,7 +25,7 @@ pub fn show_from<'s>(
     let alloc = rt.alloc();
     let mut texts = Catalog::new(alloc);
     for (tag, resource) in resources {
-        let plurals = plurals_for(alloc, *tag)?;
+        let plurals = RuleTexts::of_language(*tag).context("no such language")?;
         let mut bundle: Bundle<'_, 's> = FluentBundle::new(alloc, Vec::new(alloc), plurals);
         bundle.set_formatter(Some(Dates::of(*tag)));
         bundle.set_transform(if is_pseudo { Some(Pseudo) } else { None });

@@ -23,9 +23,9 @@ use std::alloc::Global;
 /// 0: `out` begins with the text, `err` with a line for each of its errors, and `sizes` has both lengths. 1: so too, but a
 /// buffer that is too small for its text is as it was. From 2 on both buffers are as they were, both lengths are 0, and the
 /// number's cause holds. 2: an allocation failed. 3: the source is not UTF-8, which is told before all else. 4: the tag is
-/// not UTF-8. 6: the CLDR's rules can't be read; where it has none for the tag, the root's choose. 7: the id or the name is not UTF-8. 8: there is no
-/// such message with a value, or with the attribute, which is told before the arguments are read. 9: these are cut short, or one
-/// begins with no kind of value. 10: the name or the value of one is not UTF-8.
+/// not UTF-8; where the CLDR has no rules for the tag, the root's choose. 7: the id or the name is not UTF-8. 8: there is no such
+/// message with a value, or with the attribute, which is told before the arguments are read. 9: these are cut short, or one begins
+/// with no kind of value. 10: the name or the value of one is not UTF-8.
 #[unsafe(no_mangle)]
 pub extern "C" fn fluent_format_source(
     alloc: Global,
@@ -49,7 +49,7 @@ pub extern "C" fn fluent_format_source(
 ///
 /// 0: it is open. 5: it is open with the rules of the root, by which each number is `other`, since the CLDR has none for the tag;
 /// of a tag of more than 35 bytes this is so whatever it is. 12: one was open, and stays as it was. Else none is open: 2, an
-/// allocation failed; 4, the tag is not UTF-8; 6, its rules can't be read.
+/// allocation failed; 4, the tag is not UTF-8.
 #[unsafe(no_mangle)]
 pub extern "C" fn fluent_open(alloc: Global, slot: &mut Slot, tag: &[u8], isolate: bool) -> u8
     ensures { SlotDoes (OpensByTag tag.now isolate false) slot result }

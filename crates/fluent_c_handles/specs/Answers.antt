@@ -16,7 +16,6 @@ use Rattle.fluent_semantics.specs.Number.{is_text}
 use Rattle.fluent_semantics.specs.Value.{Plurals}
 use Rattle.fluent_bundle.specs.BundleView.{attribute_at, meant, value_at}
 use Rattle.fluent_bundle.specs.declared.bundle.FluentBundle.{FluentBundle}
-use Rattle.fluent_catalog.specs.declared.language.LanguageFault.TheVariants as language
 use Rattle.fluent_answers.specs.Asked.{formatter_of, function_of, transform_of}
 use Rattle.fluent_answers.specs.OwnValues.{own_custom, own_text}
 use Rattle.fluent_answers.specs.Tables.{Table}
@@ -127,8 +126,7 @@ pub record OpenedByTag (tag : Text) (on bare : Bool) (bundle : Bundle Text) : Ty
 -- why there is none
 abbrev pub NotOpenedByTag : Text → OpenFault → Type 0
 NotOpenedByTag tag opening.NotText = ¬ (IsTag tag)
-NotOpenedByTag tag (opening.Language (language.Rules f)) = IsParse (rules_for_tag tag).cardinal (rules_for_tag tag).ordinal (Err f)
-NotOpenedByTag tag (opening.Language language.Unknown) = ⊥
+NotOpenedByTag tag (opening.Rules f) = ⊥
 NotOpenedByTag tag opening.Memory = IsTag tag × CanBeRead (rules_for_tag tag).cardinal (rules_for_tag tag).ordinal
 
 -- a bundle with the entries of a source, of each id the first
@@ -168,9 +166,8 @@ fault_status source_fault.Memory = 2
 fault_status source_fault.NotText = 3
 fault_status (source_fault.Open opening.Memory) = 2
 fault_status (source_fault.Open opening.NotText) = 4
-fault_status (source_fault.Open (opening.Language language.Unknown)) = 5
-fault_status (source_fault.Open (opening.Language (language.Rules rule.Memory))) = 2
-fault_status (source_fault.Open (opening.Language (language.Rules (rule.Syntax kind at)))) = 6
+fault_status (source_fault.Open (opening.Rules rule.Memory)) = 2
+fault_status (source_fault.Open (opening.Rules (rule.Syntax kind at))) = 6
 fault_status (source_fault.Format format.Memory) = 2
 fault_status (source_fault.Format format.NotText) = 7
 fault_status (source_fault.Format format.NoMessage) = 8

@@ -7,7 +7,6 @@ use crate::opening::OpenFault;
 use crate::sources::SourceFault;
 use crate::texts::{FormatFault, Lengths};
 use fluent_answers::Fault;
-use fluent_catalog::LanguageFault;
 use fluent_plural_rules::RuleFault;
 
 /// What is answered.
@@ -125,9 +124,8 @@ fn open_status(fault: OpenFault) -> u8
     match fault {
         OpenFault::Memory => 2,
         OpenFault::NotText => 4,
-        OpenFault::Language(LanguageFault::Unknown) => 5,
-        OpenFault::Language(LanguageFault::Rules(RuleFault::Memory)) => 2,
-        OpenFault::Language(LanguageFault::Rules(RuleFault::Syntax(..))) => 6,
+        OpenFault::Rules(RuleFault::Memory) => 2,
+        OpenFault::Rules(RuleFault::Syntax(..)) => 6,
     }
 }
 

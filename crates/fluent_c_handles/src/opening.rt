@@ -3,12 +3,11 @@ ghost use Rattle.std.specs.Prelude.{◌≡◌, [], false, is_some, IfOk, IfErr};
 ghost use Rattle.fluent_plural_rules.specs.RuleTexts.{IsParse, category_of};
 ghost use Rattle.fluent_c_handles.specs.Answers.{NotOpenedByTag, OpenedByTag, bundle_view, language_rules, new_bundle};
 ghost use Rattle.fluent_c_handles.specs.Calls.Opening.{NotOpenedByRules, OpenedByRules};
-ghost use Rattle.fluent_c_handles.specs.Inside.Rules.{HasRules, IsRootFault, IsUnset};
+ghost use Rattle.fluent_c_handles.specs.Inside.Rules.{HasRules, IsNoTag, IsUnset};
 
 use fluent_answers::{AskedFormatter, AskedFunction, AskedTransform, OwnValue};
 use fluent_bundle::FluentBundle;
-use fluent_catalog::{LanguageFault, plurals_for};
-use fluent_plural_rules::RuleTexts;
+use fluent_plural_rules::{RuleFault, RuleTexts};
 use std::alloc::{AllocError, Global};
 use std::str;
 
@@ -28,8 +27,8 @@ pub(crate) type Asking<'r, 's> = FluentBundle<
 pub enum OpenFault {
     /// The tag, or a text of rules, is not UTF-8.
     NotText,
-    /// The language has no plural rules, or the rules could not be read.
-    Language(LanguageFault),
+    /// The texts of plural rules could not be read.
+    Rules(RuleFault),
     /// An allocation failed.
     Memory,
 }
@@ -48,7 +47,7 @@ pub(crate) struct Opened<'r, 's> {
 ///
 /// # Errors
 ///
-/// As [`OpenFault`] says; a language is never unknown.
+/// As [`OpenFault`] says, but for `Rules`: those of a language can be read.
 pub(crate) fn open<'r, 's>(
     alloc: Global,
     tag: &[u8],
@@ -74,7 +73,7 @@ pub(crate) fn open<'r, 's>(
 fn plurals_of(alloc: Global, tag: &[u8]) -> Result<(RuleTexts, bool), OpenFault>
     ensures ok { IfOk result (λ found. HasRules tag.now found.0) }
     ensures known { IfOk result (λ found. found.1 ≡ is_some (language_rules tag.now)) }
-    ensures err { IfErr result (NotOpenedByTag tag.now) }
+    ensures err { IfErr result (IsNoTag tag.now) }
 {
     if tag.len() > LONGEST_TAG {
         return root(alloc);
@@ -82,12 +81,9 @@ fn plurals_of(alloc: Global, tag: &[u8]) -> Result<(RuleTexts, bool), OpenFault>
     let Ok(tag) = str::from_utf8(tag) else {
         return Err(OpenFault::NotText);
     };
-    match plurals_for(alloc, tag) {
-        Ok(plurals) => Ok((plurals, true)),
-        Err(LanguageFault::Unknown) => root(alloc),
-        Err(LanguageFault::Rules(fault)) => {
-            Err(OpenFault::Language(LanguageFault::Rules(fault)))
-        }
+    match RuleTexts::of_language(tag) {
+        Some(plurals) => Ok((plurals, true)),
+        None => root(alloc),
     }
 }
 
@@ -95,11 +91,12 @@ fn plurals_of(alloc: Global, tag: &[u8]) -> Result<(RuleTexts, bool), OpenFault>
 fn root(alloc: Global) -> Result<(RuleTexts, bool), OpenFault>
     ensures ok { IfOk result (λ found. IsParse [] [] (Ok found.0)) }
     ensures known { IfOk result (λ found. found.1 ≡ false) }
-    ensures err { IfErr result IsRootFault }
+    ensures err { IfErr result (λ _. ⊥) }
 {
     match RuleTexts::parse(alloc, "", "") {
         Ok(plurals) => Ok((plurals, false)),
-        Err(fault) => Err(OpenFault::Language(LanguageFault::Rules(fault))),
+        // No rules can always be read, and take no memory.
+        Err(_) => Err(OpenFault::Memory),
     }
 }
 
@@ -107,7 +104,7 @@ fn root(alloc: Global) -> Result<(RuleTexts, bool), OpenFault>
 ///
 /// # Errors
 ///
-/// As [`OpenFault`] says; a language is never unknown.
+/// As [`OpenFault`] says.
 pub(crate) fn open_by_rules<'r, 's>(
     alloc: Global,
     cardinal: &[u8],
@@ -126,7 +123,7 @@ pub(crate) fn open_by_rules<'r, 's>(
             Ok(bundle) => Ok(bundle),
             Err(AllocError) => Err(OpenFault::Memory),
         },
-        Err(fault) => Err(OpenFault::Language(LanguageFault::Rules(fault))),
+        Err(fault) => Err(OpenFault::Rules(fault)),
     }
 }
 

@@ -1,3 +1,2 @@
 pub mod CatalogView
-pub mod Language
 pub mod Reports

@@ -15,8 +15,8 @@ use std::borrow::CowStr;
 /// The texts of a program in several languages: a bundle for each, in the order in which they are asked, with the tag
 /// of its language.
 ///
-/// The bundles have one type, and each its own plural rules of that type (those of [`plurals_for`](crate::plurals_for)
-/// for one), transform, formatter, functions and limit.
+/// The bundles have one type, and each its own plural rules of that type (those of
+/// `RuleTexts::of_language` for one), transform, formatter, functions and limit.
 pub struct Catalog<'r, 's, M, C, F, G, T = Box<dyn Transform>> {
     tags: Vec<&'s str>,
     bundles: Vec<FluentBundle<'r, 's, M, C, F, G, T>>,

@@ -2,9 +2,7 @@
 #![tactic(auto)]
 
 pub mod catalog;
-mod language;
 mod reports;
 
 pub use catalog::Catalog;
-pub use language::{LanguageFault, plurals_for};
 pub use reports::{Report, add_source, read_source};

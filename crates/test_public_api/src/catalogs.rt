@@ -1,16 +1,11 @@
-//! Texts in two languages, what is wrong with their sources, and plural rules by a tag; where an allocation fails too.
+//! Texts in two languages, and what is wrong with their sources; where an allocation fails too.
 use crate::check::{check, check_same};
 use crate::common::{empty, lines};
 use crate::lists::two;
 use crate::own::{Bracketed, Own, Upper};
 use crate::taken::{BOTH, Row};
-use fluent_bundle::{
-    EnglishPlurals, FluentError, FluentResource, NoCustom, ParserError, PluralCategory,
-    PluralOperands, PluralRuleType,
-};
-use fluent_catalog::{Catalog, LanguageFault, Report, add_source, plurals_for, read_source};
-use fluent_intl::{FluentNumber, MemoizerKind};
-use fluent_plural_rules::RuleTexts;
+use fluent_bundle::{EnglishPlurals, FluentError, FluentResource, NoCustom, ParserError};
+use fluent_catalog::{Catalog, Report, add_source, read_source};
 use std::alloc::{AllocError, Global};
 use std::borrow::CowStr;
 use std::process::Abort;
@@ -201,29 +196,4 @@ fn what_is_wrong_is_reported_by_language(rt: HostRuntime) -> Result<(), Fail> {
     let wanted = "Attempt to override an existing message: \"b\".\n";
     check_same(&rt, left.as_ref().map_or("", |text| text.as_str()), wanted);
     Ok(())
-}
-
-/// Where an allocation fails they are asked for again.
-fn plurals(alloc: Global, tag: &str) -> Result<RuleTexts, LanguageFault> {
-    match plurals_for(alloc, tag) {
-        Err(LanguageFault::Rules(_)) => plurals_for(alloc, tag),
-        found => found,
-    }
-}
-
-/// Run with each allocation failing in turn.
-#[test]
-fn a_language_has_its_plural_rules(rt: HostRuntime) {
-    let three = PluralOperands::from(&FluentNumber::from(3));
-    let few = match plurals(rt.alloc(), "pl-PL") {
-        Ok(rules) => rules.select(PluralRuleType::CARDINAL, &three) == PluralCategory::FEW,
-        Err(_) => false,
-    };
-    check(&rt, few, "three in Polish");
-    let none = plurals_for(rt.alloc(), "xx");
-    check(
-        &rt,
-        matches!(none, Err(LanguageFault::Unknown)),
-        "no such language",
-    );
 }

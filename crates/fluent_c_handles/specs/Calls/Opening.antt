@@ -5,7 +5,6 @@ use Rattle.fluent_ast.specs.Tree.{Text}
 use Rattle.fluent_plural_rules.specs.RuleTexts.{IsParse, category_of}
 use Rattle.fluent_plural_rules.specs.RuleTree.{Rules}
 use Rattle.fluent_semantics.specs.Bundle.{Bundle}
-use Rattle.fluent_catalog.specs.declared.language.LanguageFault.TheVariants as language
 use Rattle.fluent_c_handles.specs.Answers.{BundleCall, CanBeRead, Kept, KeptCall, NotOpenedByTag, OpenedByTag, language_rules, new_bundle, new_kept}
 use Rattle.fluent_c_handles.specs.declared.answer.Answer.TheVariants as answer
 use Rattle.fluent_c_handles.specs.declared.opening.OpenFault.{OpenFault}
@@ -44,8 +43,7 @@ pub record OpenedByRules (cardinal ordinal : Text) (on : Bool) (bundle : Bundle 
 -- why there is none
 abbrev pub NotOpenedByRules : Text → Text → OpenFault → Type 0
 NotOpenedByRules cardinal ordinal fault.NotText = ¬ (IsUtf8 cardinal × IsUtf8 ordinal)
-NotOpenedByRules cardinal ordinal (fault.Language (language.Rules f)) = IsParse cardinal ordinal (Err f)
-NotOpenedByRules cardinal ordinal (fault.Language language.Unknown) = ⊥
+NotOpenedByRules cardinal ordinal (fault.Rules f) = IsParse cardinal ordinal (Err f)
 NotOpenedByRules cardinal ordinal fault.Memory = IsUtf8 cardinal × IsUtf8 ordinal × CanBeRead cardinal ordinal
 
 abbrev pub OpensByRules : Text → Text → Bool → KeptCall
