@@ -1,6 +1,6 @@
 # shellcheck shell=bash
 # What ./fluent_show, ./fluent, ./build and ./check share, for a shell to read: which crates one stands on, whether the program in
-# its out/ is the proved one of these sources, and what is proved first. Most take the folder of a repository, and the name of one
+# its out/ is the proved one of these sources, and how many proofs run at once. Most take the folder of a repository, and the name of one
 # of its crates.
 
 # The lines of crates.txt of the crate, or of several, and of those that they stand on, directly or not.
@@ -71,34 +71,13 @@ copy_crates() {
     done
 }
 
-# Pieces of the longest chain of crates. A crate gets two processors of 'rt ci' where no other is ready, so each piece has a run of its
-# own, beside the run that proves the rest.
-CHAIN='fluent_ast fluent_references fluent_bundle_entries fluent_resolver fluent_check'
-
-# Proves the pieces that the repository $1 has, one after the other, and then each crate behind $1.
-prove_chain() {
-    local top=$1 crate
-    shift
-    for crate in $CHAIN "$@"; do
-        ! grep -q "^$crate[ :]" "$top/crates.txt" || (cd "$top" && exec env -u RT_JOBS rt ci "$crate") || return
-    done
-}
-
-# Begins that for the repository $2, as a group of processes; what it says goes into the file $1.
-begin_chain() {
-    export -f prove_chain
-    CHAIN=$CHAIN setsid bash -c 'prove_chain "$@"' prove_chain "${@:2}" > "$1" 2>&1 &
-    chain=$!
-}
-
-# Ends it, where it has not ended.
-end_chain() {
-    [ -z "${chain-}" ] || kill -- "-$chain" 2> /dev/null
-    chain=
-}
-
 # How many proofs run beside one another: one takes less than 6 GB of memory, where rt ci sets aside more and so leaves processors idle.
 proofs_at_once() {
     awk -v cores="$(nproc)" '/^MemAvailable/ { fit = int($2 / 6000000) }
         END { fit = fit < cores ? fit : cores; print (fit > 1 ? fit : 1) }' /proc/meminfo
+}
+
+# Whether 'rt ci' takes names of crates here: under CI=true it takes none.
+takes_names() {
+    [ "${CI-}" != true ]
 }

@@ -11,7 +11,7 @@ use Rattle.fluent_semantics.specs.Result.{written_pattern}
 use Rattle.fluent_semantics.specs.Value.{Value}
 use Rattle.fluent_semantics.specs.Walk.{Environment, application, elements, has_one, inner}
 use Rattle.fluent_bundle_entries.specs.Texts.{sole_text, is_text, texts_of}
-use Rattle.fluent_bundle.specs.Facts.Events.{errors_on, text_on, writes_on}
+use Rattle.fluent_bundle.specs.Facts.Events.{errors_of, errors_on, text_of, text_on, writes_on}
 use Rattle.fluent_bundle.specs.Formatted.{EventsAreRun, written_events}
 
 -- they come to what the pattern gives
@@ -57,3 +57,10 @@ pub sole_events : (b : Bundle Text) (env : Map (Value Text)) (p : Pattern) (t : 
 sole_events b env p t plain is =
     let alone = sole_is_text p t is in
     texts_events b env p plain alone.0 ∙ ap (λ u. entered 1 ∷ writes u) alone.1
+
+-- what they come to
+pub texts_value : (b : Bundle Text) (env : Map (Value Text)) (p : Pattern) → EventsAreRun b env p → ((u : Text) → b.transform u ≡ u) → is_text p ≡ true → texts_of p ≡ (written_pattern b env p).value
+texts_value b env p law plain is = sym (text_of (texts_of p)) ∙ ap text_in (sym (texts_events b env p plain is)) ∙ law.run.text
+
+pub texts_errors : (b : Bundle Text) (env : Map (Value Text)) (p : Pattern) → EventsAreRun b env p → ((u : Text) → b.transform u ≡ u) → is_text p ≡ true → [] ≡ (written_pattern b env p).errors
+texts_errors b env p law plain is = sym (errors_of (texts_of p)) ∙ ap errors_in (sym (texts_events b env p plain is)) ∙ law.run.errors

@@ -5,13 +5,12 @@ use Rattle.std.specs.Option.{option_map}
 use Rattle.std.specs.Io.KnownBytes.{Appends}
 use Rattle.std.specs.Prelude.{◌≤◌}
 use Rattle.fluent_ast.specs.Tree.{Text, Pattern}
-use Rattle.fluent_text.specs.Writer.{writer_in, Faulted}
+use Rattle.fluent_text.specs.Writer.{writer_in}
 use Rattle.fluent_text.specs.declared.counting.Counting.{Counting}
 use Rattle.fluent_text.specs.declared.counting.WriteFault.{WriteFault}
-use Rattle.fluent_text.specs.declared.counting.WriteFault.TheVariants as fault
 use Rattle.fluent_values.specs.declared.output.Halt.{Halt}
 use Rattle.fluent_values.specs.declared.output.Output.{Output}
-use Rattle.fluent_values.specs.Sinks.{Sink, SinkTook, CountsTell, at, keeping, outside, sink, without_error, writer}
+use Rattle.fluent_values.specs.Sinks.{Sink, SinkTook, at, keeping, outside, sink, without_error, writer}
 use Rattle.fluent_semantics.specs.Ahead.{ahead, comes, events_of}
 use Rattle.fluent_semantics.specs.Arguments.{Map}
 use Rattle.fluent_semantics.specs.Bundle.{Bundle}
@@ -174,10 +173,3 @@ never_none f (Some x) y h k = cc
 pub ok_as : {T : Type 0} (P : Type 0) (r : Result T WriteFault) {q : Result T Halt} → without_error r ≡ q → OnOk q P → OnOk r P
 ok_as P (Ok x) is h = subst (λ q. OnOk q P) (sym is) h
 ok_as P (Err e) is h = tt
-
--- and the counts tell as much
-pub faulted_as : {T : Type 0} (f e f' e' : ℕ) (r : Result T WriteFault) {q : Result T Halt} → without_error r ≡ q → CountsTell f e f' e' q → Faulted f e f' e' r
-faulted_as f e f' e' (Ok x) is h = subst (CountsTell f e f' e') (sym is) h
-faulted_as f e f' e' (Err (fault.Writer x)) is h = subst (CountsTell f e f' e') (sym is) h
-faulted_as f e f' e' (Err fault.Zero) is h = subst (CountsTell f e f' e') (sym is) h
-faulted_as f e f' e' (Err fault.Memory) is h = subst (CountsTell f e f' e') (sym is) h

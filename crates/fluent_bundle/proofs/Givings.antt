@@ -1,6 +1,6 @@
 -- What formatting answers as a text.
 use Rattle.std.proofs.Common.{rules, ◌≡◌, refl, sym, ap, subst, ◌∙◌, List, [], ◌++◌, append-nil, Option, Some, None, Result, Global}
-use Rattle.std.specs.Prelude.{true, ◌≤◌, ◌&&◌, not, is_some, if◌then◌else◌}
+use Rattle.std.specs.Prelude.{true, false, ◌≤◌, ◌&&◌, not, is_some, if◌then◌else◌}
 use Rattle.std.specs.declared.borrow.CowStr.{CowStr}
 use Rattle.fluent_ast.specs.Tree.{Text, Pattern, nothing, more, text, placeable}
 use Rattle.fluent_semantics.specs.Errors.{Error}
@@ -11,7 +11,7 @@ use Rattle.fluent_semantics.specs.Result.{formatted, written_pattern, substitute
 use Rattle.fluent_bundle.specs.Formatted.{AddsAll, AddsPrefix, GivesText, KeepsLimit}
 use Rattle.fluent_semantics.specs.Walk.{elements}
 use Rattle.fluent_semantics.specs.Meaning.{ran}
-use Rattle.fluent_bundle_entries.specs.Texts.{sole_text, is_text}
+use Rattle.fluent_bundle_entries.specs.Texts.{sole_text, is_text, IsTextAlone}
 use Rattle.fluent_resolver_state.specs.Status.{reported}
 use Rattle.fluent_bundle_entries.specs.declared.errors.FluentError.{FluentError}
 
@@ -41,6 +41,11 @@ at_once_where (Some x) p t h = cc
 pub texts_where : {X : Type 0} (o : Option X) (p : Pattern) → (not (is_some o) && is_text p) ≡ true → (o ≡ None) × (is_text p ≡ true)
 texts_where None p h = (refl, h)
 texts_where (Some x) p h = cc
+
+-- where they aren't, there is one or the other
+pub never_alone : {X : Type 0} (o : Option X) (p : Pattern) → (not (is_some o) && is_text p) ≡ false → IsTextAlone p → o ≡ None → ⊥
+never_alone None p h texts bare = let e : true ≡ false = sym texts ∙ h in cc
+never_alone (Some x) p h texts bare = cc
 
 -- what a pattern of one text means there
 pub sole_value : (b : Bundle Text) (env : Map (Value Text)) (p : Pattern) (t : Text) → ((u : Text) → b.transform u ≡ u) → sole_text p ≡ Some t → (written_pattern b env p).value ≡ t

@@ -12,7 +12,7 @@ ghost use Rattle.fluent_bundle_entries.specs.Texts.{is_text};
 ghost use Rattle.fluent_resolver_state.specs.Status.{arguments_view};
 ghost use Rattle.fluent_bundle.specs.BundleView.{entries_in, transform_in};
 ghost use Rattle.fluent_bundle.specs.Formatted.{Adds, AddsSome, BorrowsText, GivesWhole, GivesWithin, KeepsLimit, WritesBeginning, WritesFree, WritesWhole, WritesWithin, written};
-ghost use Rattle.fluent_bundle.specs.Inside.Outputs.{CountsHalt, PutsFree, WritesOut};
+ghost use Rattle.fluent_bundle.specs.Inside.Outputs.{CountsHalt, WritesOut, WritesTo};
 ghost use Rattle.fluent_bundle.specs.Inside.Unchanged.{unchanged_text, untransformed_text};
 
 use crate::bundle::FluentBundle;
@@ -21,7 +21,7 @@ use crate::resolver::answers::formatted;
 use fluent_bundle_entries::FluentError;
 use fluent_intl::MemoizerKind;
 use fluent_resolver::output::through;
-use fluent_resolver::texts::{is_text, only_text, put_texts};
+use fluent_resolver::texts::{is_text, only_text, push_texts, write_texts};
 use fluent_resolver::{Cursor, Means, State, write_whole};
 use fluent_syntax::ast::Pattern;
 use fluent_syntax::{Counting, WriteFault, put};
@@ -140,11 +140,10 @@ impl<
         if let Some(text) = self.untransformed_text(pattern) {
             return put(w, text.as_bytes());
         }
-        let mut unused = String::new(self.alloc);
-        let mut kept = String::new(self.alloc);
-        let out = &mut through(w, &mut unused, &mut kept);
-        let written = self.write_out(out, pattern, cursor, args, errors);
-        with_error(written, &mut out.error)
+        if self.writes_texts_alone(pattern) {
+            return write_texts(w, pattern);
+        }
+        self.write_through(w, pattern, cursor, args, errors)
     }
 
     /// The text of a pattern whose references go by their links, or by name where there are none.
@@ -213,28 +212,29 @@ impl<
         formatted(self.alloc, &self.formatter, &value, &self.intls)
     }
 
-    /// Writes the text of a pattern to where an output says, which keeps no text.
-    fn write_out<W: Write>(
+    /// Writes the text of a pattern that has placeables, or texts that are changed. It stands by itself, as texts alone pay
+    /// else for what it may hold.
+    #[inline(never)]
+    fn write_through<W: Write>(
         &self,
-        out: &mut Output<W>,
+        w: &mut Counting<W>,
         pattern: &Pattern<'s>,
         cursor: Cursor<'_>,
         args: Option<&FluentArgs<'_, C>>,
         errors: &mut Vec<FluentError>,
-    ) -> Result<(), Halt>
-        requires placed { IsPlaced (entries_in self.now) (references (pattern_view pattern.now)) cursor }
-        requires unkept { out.old.is_kept ≡ false }
-        ensures writes { WritesOut (⟦<Self as Means>⟧.meaning self.now) C.content args.entry pattern.now
-            result W.contents out errors }
-        ensures memory { PutsFree self.now (pattern_view pattern.now) out.old result }
+    ) -> Result<(), WriteFault>
+        requires { IsPlaced (entries_in self.now) (references (pattern_view pattern.now)) cursor }
+        ensures { WritesTo (⟦<Self as Means>⟧.meaning self.now) C.content args.entry pattern.now
+            result W.contents w errors }
     {
-        if self.writes_texts_alone(pattern) {
-            return put_texts(out, pattern);
-        }
-        self.write_resolved(out, pattern, cursor, args, errors)
+        let mut unused = String::new(self.alloc);
+        let mut kept = String::new(self.alloc);
+        let out = &mut through(w, &mut unused, &mut kept);
+        let written = self.write_resolved(out, pattern, cursor, args, errors);
+        with_error(written, &mut out.error)
     }
 
-    /// Writes the text of a pattern that has placeables, or texts that are changed.
+    /// Writes such a text to where an output says, which keeps no text.
     #[inline(always)]
     fn write_resolved<W: Write>(
         &self,
@@ -271,7 +271,13 @@ impl<
         ensures errors { OnOk result (Adds (written (⟦<Self as Means>⟧.meaning self.now) C.content args.entry pattern.now).errors errors) }
         ensures prefix { AddsSome (written (⟦<Self as Means>⟧.meaning self.now) C.content args.entry pattern.now).errors errors }
     {
+        // A law does nothing when it is called: its clauses go into the proof.
+        laws::events_are_the_run();
         let mut text = String::with_capacity(self.alloc, room_for(pattern))?;
+        if self.writes_texts_alone(pattern) {
+            push_texts(&mut text, pattern)?;
+            return Ok(text);
+        }
         let mut unused = Counting::new(Vec::new(self.alloc));
         match self.write_into(&mut text, &mut unused, pattern, cursor, args, errors) {
             Ok(()) => Ok(text),
@@ -307,7 +313,7 @@ impl<
             kept: &mut kept,
             is_kept: false,
         };
-        self.write_out(&mut out, pattern, cursor, args, errors)
+        self.write_resolved(&mut out, pattern, cursor, args, errors)
     }
 }
 

@@ -1,12 +1,10 @@
 -- Patterns of texts alone.
-use Rattle.std.proofs.Common.{◌≡◌, refl, sym, ap, ◌∙◌, ℕ, ◌+◌, ◌<◌, ◌≤◌, List, [], ◌++◌, length, map, drop, get_or, Ok}
+use Rattle.std.proofs.Common.{◌≡◌, sym, ap, ◌∙◌, ℕ, ◌+◌, ◌<◌, ◌≤◌, List, [], ◌++◌, length, map, drop, get_or}
 use Rattle.fluent_ast.specs.Tree.{Text, Expression, text, placeable, more, pattern_of}
 use Rattle.fluent_ast.specs.View.{element_view}
 use Rattle.fluent_ast.specs.declared.ast.PatternElement.{PatternElement}
 use Rattle.fluent_bundle_entries.specs.Texts.{texts_of}
-use Rattle.fluent_values.specs.Sinks.{Sink, SinkTook}
 use Rattle.fluent_resolver_state.specs.Facts.Lists.{next_of, none_left}
-use Rattle.fluent_values.specs.Facts.Took.{appends_none, took_same, took_whole}
 
 -- the texts of the elements from one on
 abbrev pub texts_from : List PatternElement → ℕ → Text
@@ -22,6 +20,6 @@ placeable_next es i e x h is p = sym (
     ap (λ es. texts_of (pattern_of (map element_view es))) (next_of es i e h is)
     ∙ ap (λ v. texts_of (more v (pattern_of (map element_view (drop (i + 1) es))))) p)
 
--- after the last element nothing is left to take
-pub none_to_take : (es : List PatternElement) (i : ℕ) (w : Sink) → length es ≤ i → SinkTook {T = Unit {0}} (Ok tt) (texts_from es i) w w
-none_to_take es i w h = took_same (sym (ap (λ es. texts_of (pattern_of (map element_view es))) (none_left es i h))) (took_whole [] w w (appends_none w.held) (refl, refl) refl refl)
+-- after the last element none is left
+pub no_texts_left : (es : List PatternElement) (i : ℕ) → length es ≤ i → texts_from es i ≡ []
+no_texts_left es i h = ap (λ es. texts_of (pattern_of (map element_view es))) (none_left es i h)

@@ -1,8 +1,9 @@
 //! Texts: as they stand, which needs no scope, and as a bundle changes them.
 #![tactic(auto, unfolding(crate::specs::Status::state_parts))]
 
-ghost use Rattle.std.specs.Prelude.{◌≡◌, ◌≢◌, Err, IfSome, IsTrue};
+ghost use Rattle.std.specs.Prelude.{◌≡◌, ◌≢◌, ◌++◌, Err, IfSome, IsTrue, OnOk, string_bytes};
 ghost use Rattle.std.specs.Option.{option_map};
+ghost use Rattle.fluent_values.specs.Shown.{Writes};
 ghost use Rattle.fluent_values.specs.Sinks.{GoesThrough};
 ghost use Rattle.fluent_ast.specs.View.{pattern_view};
 ghost use Rattle.fluent_bundle_entries.specs.Texts.{sole_text, texts_of};
@@ -13,6 +14,7 @@ use crate::found::Found;
 use crate::state::State;
 use fluent_ast::ast::{Pattern, PatternElement};
 pub use fluent_bundle_entries::is_text;
+use fluent_text::{Counting, WriteFault, put};
 use fluent_values::output::{Halt, Output, put_text};
 use fluent_values::{Context, FluentFunction, FluentType, FluentValue};
 use std::alloc::AllocError;
@@ -34,13 +36,27 @@ pub fn only_text<'s>(pattern: &Pattern<'s>) -> Option<&'s str>
 }
 
 /// Writes the texts of a pattern as they stand, in order, and none of its placeables.
-pub fn put_texts<W: Write>(out: &mut Output<W>, pattern: &Pattern) -> Result<(), Halt>
-    ensures took { Puts W.contents (texts_of (pattern_view pattern.now)) result out }
-    ensures memory { GoesThrough out.old → result ≢ Err Halt.Memory }
+pub fn write_texts<W: Write>(w: &mut Counting<W>, pattern: &Pattern) -> Result<(), WriteFault>
+    ensures took { Writes W.contents result (texts_of (pattern_view pattern.now)) w.old w.new }
+    ensures memory { result ≢ Err WriteFault.Memory }
 {
     for element in &pattern.elements {
         match element {
-            PatternElement::TextElement { value } => put_text(out, value)?,
+            PatternElement::TextElement { value } => put(w, value.as_bytes())?,
+            PatternElement::Placeable { .. } => {}
+        }
+    }
+    Ok(())
+}
+
+/// Adds them at the end of a text.
+pub fn push_texts(out: &mut String, pattern: &Pattern) -> Result<(), AllocError>
+    ensures { OnOk result (string_bytes out.new
+        ≡ string_bytes out.old ++ texts_of (pattern_view pattern.now)) }
+{
+    for element in &pattern.elements {
+        match element {
+            PatternElement::TextElement { value } => out.push_str(value)?,
             PatternElement::Placeable { .. } => {}
         }
     }
