@@ -1,7 +1,7 @@
 # shellcheck shell=bash
 # What ./fluent_show, ./fluent, ./build and ./check share, for a shell to read: which crates one stands on, whether the program in
-# its out/ is the proved one of these sources, and how many proofs run at once. Most take the folder of a repository, and the name of one
-# of its crates.
+# its out/ is the proved one of these sources, and how many proofs run at once. Most take the folder of a repository, and the name of
+# one of its crates.
 
 # The lines of crates.txt of the crate, or of several, and of those that they stand on, directly or not.
 lines_for() {
