@@ -5,12 +5,10 @@ use Rattle.std.specs.Option.{option_map}
 use Rattle.std.specs.Io.KnownBytes.{Appends}
 use Rattle.std.specs.Prelude.{◌≤◌}
 use Rattle.fluent_ast.specs.Tree.{Text, Pattern}
-use Rattle.fluent_text.specs.Writer.{writer_in}
 use Rattle.fluent_text.specs.declared.counting.Counting.{Counting}
 use Rattle.fluent_text.specs.declared.counting.WriteFault.{WriteFault}
 use Rattle.fluent_values.specs.declared.output.Halt.{Halt}
-use Rattle.fluent_values.specs.declared.output.Output.{Output}
-use Rattle.fluent_values.specs.Sinks.{Sink, SinkTook, at, keeping, outside, sink, without_error, writer}
+use Rattle.fluent_values.specs.Sinks.{Sink, SinkTook, at, without_error, writer}
 use Rattle.fluent_semantics.specs.Ahead.{ahead, comes, events_of}
 use Rattle.fluent_semantics.specs.Arguments.{Map}
 use Rattle.fluent_semantics.specs.Bundle.{Bundle}
@@ -89,29 +87,12 @@ writes_whole {r = r} {w = w} {w' = w'} {list = list} {list' = list'} b args p la
           adds = record { added = h.prefix.adds.added ∙ ap (λ es. reported list ++ es) (sym (append-nil (errors_in h.prefix.done)) ∙ come.errors) };
         }
 
--- ---- where a text goes
-
--- two texts never stand beside an output that keeps none
-two_beside : {W : Type 0} {x y : Option Text} (contents : W → Option Text) (n k : ℕ) (w : Counting W) (s : String Global) (b : Bool) → x ∷ y ∷ [] ≡ (at contents n w k s b).beside → ⊥
-two_beside contents n k w s true h = cc
-two_beside contents n k w s false h = cc
-
-abbrev flagged : {W : Type 0} → (W → Option Text) → Output W → Bool → Sink
-flagged contents out b = keeping b out.kept.now (contents (writer_in out.writer.now)) (string_bytes out.buffer.now) (outside contents out)
-
-by_flags : {W T : Type 0} {r : Result T Halt} {t : Text} (contents : W → Option Text) (out out' : Output W) (b b' : Bool) → b ≡ false → SinkTook r t (flagged contents out b) (flagged contents out' b') → SinkTook r t (outside contents out) (outside contents out')
-by_flags contents out out' false false is h = h
-by_flags contents out out' false true is h = absurd (two_beside contents out.writer.ghost_name out.buffer.ghost_name out.writer.now out.buffer.now out.is_buffered h.beside)
-by_flags contents out out' true b' is h = cc
-
--- of an output that keeps none, what it took stands outside
-pub took_outside : {W T : Type 0} {r : Result T Halt} {t : Text} (contents : W → Option Text) (out out' : Output W) → out.is_kept ≡ false → SinkTook r t (sink contents out) (sink contents out') → SinkTook r t (outside contents out) (outside contents out')
-took_outside contents out out' is h = by_flags contents out out' out.is_kept out'.is_kept is h
-
 -- the same by substitution, within the limit
 pub substituted_of : {T E : Type 0} (r : Result T E) (held held' : Option Text) (list list' : List FluentError) (b : Bundle Text) (args : Map (Value Text)) (p : Pattern) → KeepsLimit b args p
     → OnOk r (WritesAll (written_pattern b args p).value (written_pattern b args p).errors held held' list list') → (substituted_pattern b args p).opened ≤ b.limit → OnOk r (WritesAll (substituted_pattern b args p).value (substituted_pattern b args p).errors held held' list list')
 substituted_of r held held' list list' b args p keeps h few = subst (λ m. OnOk r (WritesAll m.value m.errors held held' list list')) (keeps.within few) h
+
+-- ---- where a text goes
 
 -- which of writer and buffer takes texts is part of what stands
 which : {W : Type 0} (contents : W → Option Text) (n k : ℕ) (w : Counting W) (s : String Global) (b : Bool) → (at contents n w k s b).borrowed.1.1 ≡ b

@@ -12,7 +12,7 @@ ghost use Rattle.fluent_bundle_entries.specs.Texts.{is_text};
 ghost use Rattle.fluent_resolver_state.specs.Status.{arguments_view};
 ghost use Rattle.fluent_bundle.specs.BundleView.{entries_in, transform_in};
 ghost use Rattle.fluent_bundle.specs.Formatted.{Adds, AddsSome, BorrowsText, GivesWhole, GivesWithin, KeepsLimit, WritesBeginning, WritesFree, WritesWhole, WritesWithin, written};
-ghost use Rattle.fluent_bundle.specs.Inside.Outputs.{CountsHalt, WritesOut, WritesTo};
+ghost use Rattle.fluent_bundle.specs.Inside.Outputs.{CountsHalt, WritesOut};
 ghost use Rattle.fluent_bundle.specs.Inside.Unchanged.{unchanged_text, untransformed_text};
 
 use crate::bundle::FluentBundle;
@@ -143,7 +143,11 @@ impl<
         if self.writes_texts_alone(pattern) {
             return write_texts(w, pattern);
         }
-        self.write_through(w, pattern, cursor, args, errors)
+        let mut unused = String::new(self.alloc);
+        let mut kept = String::new(self.alloc);
+        let out = &mut through(w, &mut unused, &mut kept);
+        let written = self.write_resolved(out, pattern, cursor, args, errors);
+        with_error(written, &mut out.error)
     }
 
     /// The text of a pattern whose references go by their links, or by name where there are none.
@@ -212,29 +216,8 @@ impl<
         formatted(self.alloc, &self.formatter, &value, &self.intls)
     }
 
-    /// Writes the text of a pattern that has placeables, or texts that are changed. It stands by itself, as texts alone pay
-    /// else for what it may hold.
-    #[inline(never)]
-    fn write_through<W: Write>(
-        &self,
-        w: &mut Counting<W>,
-        pattern: &Pattern<'s>,
-        cursor: Cursor<'_>,
-        args: Option<&FluentArgs<'_, C>>,
-        errors: &mut Vec<FluentError>,
-    ) -> Result<(), WriteFault>
-        requires { IsPlaced (entries_in self.now) (references (pattern_view pattern.now)) cursor }
-        ensures { WritesTo (⟦<Self as Means>⟧.meaning self.now) C.content args.entry pattern.now
-            result W.contents w errors }
-    {
-        let mut unused = String::new(self.alloc);
-        let mut kept = String::new(self.alloc);
-        let out = &mut through(w, &mut unused, &mut kept);
-        let written = self.write_resolved(out, pattern, cursor, args, errors);
-        with_error(written, &mut out.error)
-    }
-
-    /// Writes such a text to where an output says, which keeps no text.
+    /// Writes the text of a pattern that has placeables, or texts that are changed, to where an output says, which keeps no
+    /// text. It is part of each caller, where it is known what a state begins with.
     #[inline(always)]
     fn write_resolved<W: Write>(
         &self,

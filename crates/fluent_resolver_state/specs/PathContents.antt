@@ -137,3 +137,11 @@ begin_alike (more (text t) p) (more (text u) q) = nat_eq (length t) (length u)
 begin_alike (more (text t) p) (more (placeable f) q) = false
 begin_alike (more (placeable e) p) (more (text u) q) = false
 begin_alike (more (placeable e) p) (more (placeable f) q) = are_alike e f
+
+-- a reference to a message, without an attribute
+abbrev pub referring : t.Text → t.Expression
+referring id = inline (message id t.no_attribute)
+
+-- a pattern that is one
+abbrev pub only_message : t.Text → t.Pattern
+only_message id = more (placeable (referring id)) nothing

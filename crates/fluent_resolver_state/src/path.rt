@@ -1,10 +1,10 @@
 //! The patterns that are being written, each referred to by the one before it.
 #![tactic(auto, unfolding(crate::specs::PathContents::on_path, crate::specs::PathContents::above_on, crate::specs::PathContents::below_top, crate::specs::PathContents::is_idle))]
 
-ghost use Rattle.std.specs.Prelude.{◌≡◌};
+ghost use Rattle.std.specs.Prelude.{◌≡◌, IfSome};
 ghost use Rattle.fluent_ast.specs.Tree.{is_yes, pattern_same};
 ghost use Rattle.fluent_ast.specs.View.{expression_view, pattern_view};
-ghost use Rattle.fluent_resolver_state.specs.PathContents.{are_alike, begin_alike};
+ghost use Rattle.fluent_resolver_state.specs.PathContents.{are_alike, begin_alike, only_message, referring};
 
 use fluent_ast::ast::{Expression, InlineExpression, Pattern, PatternElement};
 use smallvec::SmallVec;
@@ -370,10 +370,45 @@ fn are_alike(one: &Expression<'_>, other: &Expression<'_>) -> bool
     }
 }
 
-/// The same of two that have as many elements. It stands by itself, so that calls that differ by length cost little.
+/// The same of two that have as many elements. It stands by itself, so that calls that differ by length cost little. Of
+/// two references to messages, as cycles are made of, the ids tell.
 #[inline(never)]
 fn is_equal<'s>(one: &Pattern<'s>, other: &Pattern<'s>) -> bool
     ensures { result ≡ is_yes (pattern_same (pattern_view one.now) (pattern_view other.now)) }
 {
-    *one == *other
+    match (only_message(one), only_message(other)) {
+        (Some(own), Some(id)) => own == id,
+        _ => *one == *other,
+    }
+}
+
+/// The id of the message, without an attribute, that a pattern refers to, where it holds nothing else.
+#[inline(always)]
+fn only_message<'s>(pattern: &Pattern<'s>) -> Option<&'s str>
+    ensures { IfSome result (λ id. pattern_view pattern.now ≡ only_message id.now) }
+{
+    match pattern.elements.as_slice() {
+        [element] => match element {
+            PatternElement::Placeable { expression } => message_in(expression),
+            PatternElement::TextElement { .. } => None,
+        },
+        _ => None,
+    }
+}
+
+/// The id of the message, without an attribute, that an expression refers to.
+#[inline(always)]
+fn message_in<'s>(expression: &Expression<'s>) -> Option<&'s str>
+    ensures { IfSome result (λ id. expression_view expression.now ≡ referring id.now) }
+{
+    match expression {
+        Expression::Inline(inline) => match inline {
+            InlineExpression::MessageReference { id, attribute } => match attribute {
+                None => Some(id.name),
+                Some(_) => None,
+            },
+            _ => None,
+        },
+        Expression::Select { .. } => None,
+    }
 }

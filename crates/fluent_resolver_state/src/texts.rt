@@ -1,8 +1,9 @@
 //! Texts: as they stand, which needs no scope, and as a bundle changes them.
 #![tactic(auto, unfolding(crate::specs::Status::state_parts))]
 
-ghost use Rattle.std.specs.Prelude.{◌≡◌, ◌≢◌, ◌++◌, Err, IfSome, IsTrue, OnOk, string_bytes};
+ghost use Rattle.std.specs.Prelude.{◌≡◌, ◌≢◌, ◌++◌, Err, IfSome, IsTrue, OnOk, Some, string_bytes};
 ghost use Rattle.std.specs.Option.{option_map};
+ghost use Rattle.fluent_text.specs.Taken.{TookPrefix};
 ghost use Rattle.fluent_values.specs.Shown.{Writes};
 ghost use Rattle.fluent_values.specs.Sinks.{GoesThrough};
 ghost use Rattle.fluent_ast.specs.View.{pattern_view};
@@ -50,9 +51,15 @@ pub fn write_texts<W: Write>(w: &mut Counting<W>, pattern: &Pattern) -> Result<(
 }
 
 /// Adds them at the end of a text.
+///
+/// # Errors
+///
+/// An allocation failed: then a prefix of them was added.
 pub fn push_texts(out: &mut String, pattern: &Pattern) -> Result<(), AllocError>
-    ensures { OnOk result (string_bytes out.new
+    ensures whole { OnOk result (string_bytes out.new
         ≡ string_bytes out.old ++ texts_of (pattern_view pattern.now)) }
+    ensures prefix { TookPrefix (Some (string_bytes out.old)) (Some (string_bytes out.new))
+        (texts_of (pattern_view pattern.now)) }
 {
     for element in &pattern.elements {
         match element {

@@ -3,11 +3,10 @@ use Rattle.std.specs.Prelude.{Option, Result}
 use Rattle.std.specs.Borrow.{Bor}
 use Rattle.fluent_text.specs.Writer.{failed_in, empty_in}
 use Rattle.fluent_text.specs.declared.counting.Counting.{Counting}
-use Rattle.fluent_text.specs.declared.counting.WriteFault.{WriteFault}
 use Rattle.fluent_ast.specs.Tree.{Text}
 use Rattle.fluent_ast.specs.declared.ast.Pattern as code
 use Rattle.fluent_semantics.specs.Bundle.{Bundle}
-use Rattle.fluent_values.specs.Sinks.{CountsTell, outside, without_error, writer}
+use Rattle.fluent_values.specs.Sinks.{CountsTell, outside}
 use Rattle.fluent_values.specs.declared.args.FluentArgs.{FluentArgs}
 use Rattle.fluent_values.specs.declared.output.Halt.{Halt}
 use Rattle.fluent_values.specs.declared.output.Output.{Output}
@@ -18,11 +17,6 @@ use Rattle.fluent_bundle.specs.Formatted.{Errors, Writes, events}
 abbrev pub WritesOut : {C W T : Type 0} → Bundle Text → (C → Text) → Option (Bor (FluentArgs C)) → code.Pattern → Result T Halt → (W → Option Text) → Change (Output W) → Change Errors → Type 0
 WritesOut b content args p result contents out errors =
     Writes result (events b content args p) (outside contents (old out)) (outside contents (new out)) (old errors).items (new errors).items
-
--- the same of a writer
-abbrev pub WritesTo : {C W T : Type 0} → Bundle Text → (C → Text) → Option (Bor (FluentArgs C)) → code.Pattern → Result T WriteFault → (W → Option Text) → Change (Counting W) → Change Errors → Type 0
-WritesTo b content args p result contents w errors =
-    Writes (without_error result) (events b content args p) (writer contents (old w)) (writer contents (new w)) (old errors).items (new errors).items
 
 -- which count of a writer an answer raised
 abbrev pub CountsHalt : {W T : Type 0} → Counting W → Counting W → Result T Halt → Type 0

@@ -1,4 +1,4 @@
-use Rattle.std.proofs.Common.{◌≡◌, drop, map, Result}
+use Rattle.std.proofs.Common.{drop, map, Result}
 use Rattle.fluent_ast.specs.Tree.{pattern_of}
 use Rattle.fluent_ast.specs.View.{element_view, pattern_view}
 use Rattle.fluent_bundle_entries.specs.Texts.{texts_of}

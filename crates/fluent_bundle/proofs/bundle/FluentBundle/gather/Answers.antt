@@ -24,7 +24,7 @@ returns-then-writes_texts_alone-clause-text g c =
     let p = pattern_view c.args.pattern.now in
     let here = texts_where (transform_in self) p (sym c.writes_texts_alone.ensures ∙ c.if-writes_texts_alone.true) in
     let plain : (u : Text) → b.transform u ≡ u = λ u. ap (λ o. transform_of (option_map g.T.Transform.changed o) u) here.0 in
-    c.in_ok-push_texts.ensures ∙ ap (λ t. t ++ texts_of p) c.in_ok-text.ensures.bytes
+    c.in_ok-push_texts.ensures.whole ∙ ap (λ t. t ++ texts_of p) c.in_ok-text.ensures.bytes
     ∙ texts_value b (arguments_view g.C.FluentType.content c.args.args) p (c.events_are_the_run.ensures _ _ _) plain here.1
 
 pub returns-then-writes_texts_alone-clause-errors : goal.returns-then-writes_texts_alone-clause-errors

@@ -1,4 +1,4 @@
-use Rattle.std.proofs.Common.{◌≡◌, refl, sym, ap, ◌∙◌}
+use Rattle.std.proofs.Common.{rules, ◌≡◌, refl, sym, ap, ◌∙◌}
 use Rattle.std.specs.Option.{option_map}
 use Rattle.fluent_ast.specs.Tree.{Text}
 use Rattle.fluent_ast.specs.View.{pattern_view}
@@ -9,7 +9,7 @@ use Rattle.fluent_resolver_state.specs.Status.{arguments_view}
 use Rattle.fluent_bundle.specs.BundleView.{meant, transform_in}
 use Rattle.fluent_bundle.specs.Formatted.{Writes, written_events}
 use Rattle.fluent_bundle.proofs.Events.{sole_events, texts_events}
-use Rattle.fluent_bundle.proofs.Formats.{ok_as, writes_text, writes_whole}
+use Rattle.fluent_bundle.proofs.Formats.{ok_as, writes_text, writes_whole, written_through}
 use Rattle.fluent_bundle.proofs.Givings.{at_once_where, never_alone, texts_where}
 use Rattle.fluent_bundle.proofs.bundle.FluentBundle.write_linked.Given as given
 use Rattle.fluent_bundle.proofs.bundle.FluentBundle.write_linked.Goals as goal
@@ -54,14 +54,21 @@ pub returns-then-writes_texts_alone-clause-fault : goal.returns-then-writes_text
 returns-then-writes_texts_alone-clause-fault g c = counts_told _ _ _ _ c.write_texts.result c.write_texts.ensures.took.fault
 
 -- what was done of any other
+through_output : (g : given.Over) (c : goal.After-drop-unused g) → let b = meant g.M.MemoizerKind.category g.C.FluentType.shown g.C.FluentType.alike g.F.FluentFunction.answer g.G.FluentFormatter.formatted g.T.Transform.changed c.args.self.now in
+    Writes c.write_resolved-written.result (written_events b (arguments_view g.C.FluentType.content c.args.args) (pattern_view c.args.pattern.now)) (writer g.W.Write.contents c.args.w.now) (writer g.W.Write.contents c.w-1.given.0) c.args.errors.now.items c.write_resolved-written.new.errors.items
+through_output g c =
+    let out = c.write_resolved-written.new.out in
+    let made = c.through in
+    written_through g.W.Write.contents made.result.writer.ghost_name out.writer.ghost_name made.result.buffer.ghost_name out.buffer.ghost_name c.args.w.now made.result.writer.now out.writer.now c.w-1.given.0 made.result.buffer.now out.buffer.now made.result.is_buffered out.is_buffered (search rules) made.ensures.writer made.ensures.through c.write_resolved-written.ensures
+
 pub returns-clause-whole : goal.returns-clause-whole
-returns-clause-whole g c = ok_as _ c.write_through.result refl (writes_whole _ _ _ (c.events_are_the_run.ensures _ _ _) c.write_through.ensures)
+returns-clause-whole g c = ok_as _ c.with_error.result c.with_error.ensures (writes_whole _ _ _ (c.events_are_the_run.ensures _ _ _) (through_output g c))
 
 pub returns-clause-prefix : goal.returns-clause-prefix
-returns-clause-prefix g c = c.write_through.ensures.prefix
+returns-clause-prefix g c = (through_output g c).prefix
 
 pub returns-clause-fault : goal.returns-clause-fault
-returns-clause-fault g c = counts_told _ _ _ _ c.write_through.result c.write_through.ensures.fault
+returns-clause-fault g c = counts_told _ _ _ _ c.with_error.result (rw c.with_error.ensures (through_output g c).fault)
 
 pub returns-clause-memory : goal.returns-clause-memory
 returns-clause-memory g c = λ texts bare. absurd (never_alone (transform_in c.args.self.now) (pattern_view c.args.pattern.now) (sym c.writes_texts_alone.ensures ∙ c.if-writes_texts_alone.false) texts bare)
