@@ -71,9 +71,9 @@ copy_crates() {
     done
 }
 
-# How many proofs run beside one another: one takes less than 6 GB of memory, where rt ci sets aside more and so leaves processors idle.
+# How many proofs run beside one another: one takes less than 5 GB of memory, where rt ci sets aside more and so leaves processors idle.
 proofs_at_once() {
-    awk -v cores="$(nproc)" '/^MemAvailable/ { fit = int($2 / 6000000) }
+    awk -v cores="$(nproc)" '/^MemAvailable/ { fit = int($2 / 5000000) }
         END { fit = fit < cores ? fit : cores; print (fit > 1 ? fit : 1) }' /proc/meminfo
 }
 
