@@ -24,6 +24,7 @@ pub mod Unbraced
 pub mod Running
 pub mod Homes
 pub mod NoArguments
+pub mod NoLinks
 pub mod Wholes
 pub mod Taken
 pub mod Levels

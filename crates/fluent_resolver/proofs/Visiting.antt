@@ -1,5 +1,5 @@
 -- Patterns of one text that references lead to.
-use Rattle.std.proofs.Common.{◌≡◌, refl, sym, ap, ◌∙◌, ℕ, ◌+◌, max, length, List, [], ◌∷◌, ◌++◌, true, Option, None, Some}
+use Rattle.std.proofs.Common.{◌≡◌, refl, sym, ap, ◌∙◌, ◌+◌, max, length, [], ◌∷◌, ◌++◌, true, None, Some}
 use Rattle.std.proofs.lemmas.List.{length-append}
 use Rattle.fluent_ast.specs.Tree.{Text, Pattern, nothing, more, placeable, text}
 use Rattle.fluent_bundle_entries.specs.Texts.{sole_text}

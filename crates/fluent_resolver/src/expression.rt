@@ -3,10 +3,13 @@
 
 ghost use Rattle.std.specs.Prelude.{◌≡◌, [], None, OnOk};
 ghost use Rattle.fluent_ast.specs.References.{in_expression, in_inline, in_variants, variants_view};
+ghost use Rattle.fluent_ast.specs.ReferencesOf.{of_inline};
 ghost use Rattle.fluent_ast.specs.Tree.{select};
 ghost use Rattle.fluent_ast.specs.View.{expression_view, inline_view};
 ghost use Rattle.fluent_values.specs.View.{value_view};
 ghost use Rattle.fluent_bundle_entries.specs.IdNumbers.{IsPlaced, numbers};
+ghost use Rattle.fluent_references.specs.Cursors.{seen};
+ghost use Rattle.fluent_references.specs.Links.{past};
 ghost use Rattle.fluent_resolver_state.specs.ChosenView.{BeginsAt, chosen_view};
 ghost use Rattle.fluent_resolver.specs.Inside.Parts as parts;
 ghost use Rattle.fluent_resolver.specs.Inside.Parts.{IsSelect};
@@ -15,12 +18,13 @@ ghost use Rattle.fluent_resolver.specs.Frames.{made, selector_value, AreReady, G
 
 use crate::arguments::resolve;
 use crate::inline_expression::write_unbraced;
-use crate::pattern::write_elements;
+use crate::pattern::{write_elements, write_variant_text};
 use crate::work::Work;
 use fluent_ast::ast::{Expression, InlineExpression, Variant};
 use fluent_references::Cursor;
 use fluent_resolver_state::State;
 use fluent_resolver_state::lost::report_no_default;
+use fluent_resolver_state::texts::only_text;
 use fluent_resolver_state::variants::{Chosen, choose, choose_by_variable};
 use fluent_values::output::{Halt, Output};
 use fluent_values::{Context, FluentFunction, FluentType, FluentValue};
@@ -109,6 +113,17 @@ pub(crate) fn innermost<'p, 's>(expression: &'p Expression<'s>) -> &'p Expressio
     inner
 }
 
+/// After a selector, which is passed over without a call where no link is left.
+#[inline(always)]
+fn after_selector<'b>(cursor: Cursor<'b>, selector: &InlineExpression<'_>) -> Cursor<'b>
+    ensures { seen result ≡ past (of_inline selector.now) (seen cursor.entry) }
+{
+    if cursor.first().is_none() {
+        return cursor;
+    }
+    cursor.after_inline(selector)
+}
+
 /// Writes the variant of a select that its selector's value goes to.
 #[cycle(resolve)]
 #[inline(never)]
@@ -131,7 +146,7 @@ fn write_select<'p, 's, 'args, W: Write, C: FluentType, F: FluentFunction<C>, B:
     match expression {
         Expression::Select { selector, variants } => match selector {
             InlineExpression::VariableReference { id } => {
-                let after = cursor.after_inline(selector);
+                let after = after_selector(cursor, selector);
                 let chosen = choose_by_variable(scope, selector, id, variants, after)?;
                 write_chosen(scope, out, work, levels, chosen)
             }
@@ -245,6 +260,9 @@ fn write_chosen<'p, 's, 'args, W: Write, C: FluentType, F: FluentFunction<C>, B:
 {
     match chosen {
         Some(chosen) => {
+            if let Some(text) = only_text(chosen.pattern) {
+                return write_variant_text(scope, out, chosen.pattern, text);
+            }
             let begun = scope.begin(chosen.pattern);
             write_elements(scope, out, work, levels, chosen.pattern, chosen.cursor)?;
             if work.is_done() {

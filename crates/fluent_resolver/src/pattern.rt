@@ -1,14 +1,14 @@
 //! Patterns.
 #![tactic(auto, unfolding(fluent_resolver_state::specs::Status::state_parts))]
 
-ghost use Rattle.std.specs.Prelude.{◌≡◌, ◌≢◌, [], Err, IsTrue, None, OnOk};
+ghost use Rattle.std.specs.Prelude.{◌≡◌, ◌≢◌, [], Err, IsTrue, None, OnOk, Some};
 ghost use Rattle.fluent_ast.specs.References.{in_expression, references};
 ghost use Rattle.fluent_ast.specs.ReferencesOf.{of_element};
 ghost use Rattle.fluent_ast.specs.View.{expression_view, pattern_view};
 ghost use Rattle.fluent_semantics.specs.Meaning.{limit_reached};
 ghost use Rattle.fluent_semantics.specs.Walk.{has_one};
 ghost use Rattle.fluent_bundle_entries.specs.IdNumbers.{IsPlaced};
-ghost use Rattle.fluent_bundle_entries.specs.Texts.{IsTextAlone};
+ghost use Rattle.fluent_bundle_entries.specs.Texts.{IsTextAlone, sole_text};
 ghost use Rattle.fluent_references.specs.Cursors.{seen};
 ghost use Rattle.fluent_references.specs.Links.{past};
 ghost use Rattle.fluent_resolver_state.specs.Status.{budget_view, stored_in};
@@ -202,4 +202,32 @@ pub(crate) fn write_only_text<'p, 's, W: Write, C: FluentType, F: FluentFunction
         return Ok(());
     }
     put_changed(scope, out, text)
+}
+
+/// Writes a variant of one text, which stands on the path where that is empty: it is begun and left at once.
+#[inline(always)]
+pub(crate) fn write_variant_text<
+    'p,
+    's,
+    W: Write,
+    C: FluentType,
+    F: FluentFunction<C>,
+    B: Context<C>,
+>(
+    scope: &mut State<'_, 'p, '_, 's, '_, C, F, B>,
+    out: &mut Output<W>,
+    pattern: &'p Pattern<'s>,
+    value: &str,
+) -> Result<(), Halt>
+    requires { sole_text (pattern_view pattern.now) ≡ Some value.now }
+    ensures goes { Passes B.meant B.is_plain F.answer C.content W.contents result
+        (parts.whole (pattern_view pattern.now)) scope out }
+    ensures stored { stored_in scope.new.ids.now ≡ stored_in scope.old.ids.now }
+{
+    let begun = scope.begin(pattern);
+    if !scope.dirty() {
+        put_changed(scope, out, value)?;
+    }
+    scope.leave(begun);
+    Ok(())
 }

@@ -1,7 +1,7 @@
 //! Which variant of a select a value goes to.
 #![tactic(auto, unfolding(crate::specs::Status::state_parts))]
 
-ghost use Rattle.std.specs.Prelude.{◌≡◌, IfOk};
+ghost use Rattle.std.specs.Prelude.{◌≡◌, [], IfOk, IsTrue};
 ghost use Rattle.fluent_ast.specs.References.{variants_view};
 ghost use Rattle.fluent_ast.specs.Tree.{variable};
 ghost use Rattle.fluent_ast.specs.View.{inline_view, pattern_view, key_view};
@@ -10,6 +10,8 @@ ghost use Rattle.fluent_semantics.specs.Value.{try_number};
 ghost use Rattle.fluent_resolver_state.specs.Choice.{choice, first_default, is_like};
 ghost use Rattle.fluent_resolver_state.specs.ChosenView.{BeginsIn, chosen, chosen_view, has_key, is_like_value};
 ghost use Rattle.fluent_resolver_state.specs.Locals.{literal_value, locals_view, value_of};
+ghost use Rattle.fluent_resolver_state.specs.Status.{environment_view};
+ghost use Rattle.fluent_semantics.specs.Walk.{local};
 ghost use Rattle.fluent_values.specs.View.{value_view};
 ghost use Rattle.fluent_resolver_state.specs.StateCalls.{Chooses};
 
@@ -47,8 +49,40 @@ impl<'p, 's> Chosen<'p, 's> {
 }
 
 /// The variant that a variable's value goes to. One that is missing goes to the default, with the error that it has
-/// where it is written.
+/// where it is written. In a term that was given no arguments, as most are, none has a value: this costs no call.
+#[inline(always)]
 pub fn choose_by_variable<'p, 's, C: FluentType, F: FluentFunction<C>, B: Context<C>>(
+    scope: &mut State<'_, 'p, '_, 's, '_, C, F, B>,
+    selector: &InlineExpression<'_>,
+    id: &Identifier<'_>,
+    variants: &'p [Variant<'s>],
+    cursor: Cursor<'p>,
+) -> Result<Option<Chosen<'p, 's>>, AllocError>
+    requires { inline_view selector.now ≡ variable id.now.name.now }
+    ensures chose { Chooses B.meant B.is_plain F.answer C.content selector.now id.now.name.now variants.now result
+        scope }
+    ensures placed { IfOk result (λ chosen. BeginsIn variants.now cursor.entry chosen) }
+{
+    if is_bare(&scope.environment) {
+        return Ok(first_default(variants, cursor));
+    }
+    choose_by_given(scope, selector, id, variants, cursor)
+}
+
+/// Whether variables are looked up in a term that was given no arguments.
+#[inline(always)]
+fn is_bare<C: FluentType>(environment: &Environment<'_, '_, '_, C>) -> bool
+    ensures { IsTrue result → environment_view C.content environment.now ≡ local [] }
+{
+    match environment {
+        Environment::Local(locals) => matches!(locals, Locals::Literals(None)),
+        Environment::Application(_) => false,
+    }
+}
+
+/// The same where there are arguments of the application or of a term.
+#[inline(never)]
+fn choose_by_given<'p, 's, C: FluentType, F: FluentFunction<C>, B: Context<C>>(
     scope: &mut State<'_, 'p, '_, 's, '_, C, F, B>,
     selector: &InlineExpression<'_>,
     id: &Identifier<'_>,

@@ -11,6 +11,9 @@ use std::alloc::{AllocError, Global};
 use std::borrow::CowStr;
 use std::{slice, vec};
 
+/// Among so many arguments a name is looked for one by one.
+const FEW: usize = 8;
+
 /// The values of variables: a map from name to value.
 ///
 /// The pairs stand in the order of the names' bytes. Most calls have a few, which are found in one block of memory
@@ -80,6 +83,31 @@ impl<'a, C: FluentType> FluentArgs<'a, C> {
 
     /// The value of a name, or `None` where it has none. Takes no memory.
     pub fn get(&self, name: &str) -> Option<&FluentValue<'a, C>>
+        ensures { Finds C.content name.now self.now result }
+    {
+        if self.pairs.len() <= FEW {
+            self.among_few(name)
+        } else {
+            self.by_order(name)
+        }
+    }
+
+    /// The same among few, by equality, which looks at the lengths of two names first.
+    #[inline(always)]
+    fn among_few(&self, name: &str) -> Option<&FluentValue<'a, C>>
+        ensures { Finds C.content name.now self.now result }
+    {
+        for pair in self.pairs.as_slice() {
+            if name == pair.0.as_str() {
+                return Some(&pair.1);
+            }
+        }
+        None
+    }
+
+    /// The same among many, by the order of the names.
+    #[inline(never)]
+    fn by_order(&self, name: &str) -> Option<&FluentValue<'a, C>>
         ensures { Finds C.content name.now self.now result }
     {
         match self.place_of(name) {

@@ -945,6 +945,20 @@ expression::choose_variant-returns-clause-goes g t c = λ k n.
     let chosen = chosen_ahead (variants_view c.args.variants.now) (value_view content c.args.value.now) (chosen_view c.choose-chosen.result) a.bundle (k a.bundle) v c.choose-chosen.ensures.chose in
     went_on (turns chosen (begun _ n (outside contents out) a)) (c.write_chosen.ensures.goes k n)
 
+pub expression::write_chosen-returns-in-Some-only_text-clause-goes : goal.expression::write_chosen-returns-in-Some-only_text-clause-goes
+unfolding state_parts
+expression::write_chosen-returns-in-Some-only_text-clause-goes g t c = λ k n.
+    let content = g.C.FluentType.content in
+    let contents = g.W.Write.contents in
+    let a = state g.B.Context.meant g.B.Context.is_plain g.F.FluentFunction.answer content c.args.scope.now in
+    let out = c.args.out.now in
+    let work = c.args.work.now in
+    let values = values_view content (values_in work) in
+    let v = viewed out a values in
+    let d = state g.B.Context.meant g.B.Context.is_plain g.F.FluentFunction.answer content c.write_variant_text.new.scope in
+    let way = turns (ap (λ o. parts.chosen (chosen_view o) a.bundle (k a.bundle) v) c.in-Some.is) (begun _ n (outside contents out) a) in
+    none_waits content d.bundle (frames_in work) (k d.bundle) (λ u. None) (viewed c.write_variant_text.new.out d values) c.requires.nothing (went_on way (c.write_variant_text.ensures.goes k values n))
+
 pub expression::write_chosen-returns-in_err-write_elements-in-Some-clause-goes : goal.expression::write_chosen-returns-in_err-write_elements-in-Some-clause-goes
 unfolding state_parts
 expression::write_chosen-returns-in_err-write_elements-in-Some-clause-goes g t c = λ k n.

@@ -10,9 +10,11 @@ use Rattle.std.specs.FinMap.{put, find, is_sorted, slice_cmp-IsAntisymmetric, na
 use Rattle.std.specs.FinMap.Entries.{below_all, by_order, is_sorted-put}
 use Rattle.std.specs.List.{insert, AllWithin, HoldsAt}
 use Rattle.std.specs.List.Sorted.{IsSearchInRange, IsBinarySearchResult, IsNonDecreasingBy}
-use Rattle.std.proofs.Common.{sym, ap, subst, ◌∙◌, arith, length, get_or, set, Global}
-use Rattle.std.proofs.lemmas.List.{append-nil, append_assoc}
+use Rattle.std.specs.Str.{bytes_eq}
+use Rattle.std.proofs.Common.{sym, ap, subst, ◌∙◌, arith, length, drop, get_or, set, Global}
+use Rattle.std.proofs.lemmas.List.{append-nil, append_assoc, drop_more}
 use Rattle.std.proofs.lemmas.List.Sorted.{searchable_from_sorted}
+use Rattle.std.proofs.lemmas.Map.Text.{is_eq-slice_cmp}
 use Rattle.fluent_ast.specs.Tree.{Text}
 use Rattle.fluent_semantics.specs.Arguments.{set_all, IsInOrder}
 use Rattle.fluent_values.specs.Names.{NamesRise, IsPlaceOf, to_name}
@@ -47,6 +49,20 @@ module _ {K X Y : Type 0} (key : K → Text) (f : X → Y) where
   find_there (e ∷ es) (suc i) k d up lt is =
       ap (λ r. cond (is_eq r) (Some (f e.1)) (find bytes_cmp k (both key f es))) (first_smaller e es i k up (omega (arith, lt)) (λ d. is d))
       ∙ find_there es i k d (rest_of _ _ up) (omega (arith, lt)) (λ d. is d)
+
+  -- one by one: the first left that has the name is found
+  pub find_left : (es : List (K × X)) (i : ℕ) (e : K × X) (k : Text) → i < length es → e ≡ get_or es i e
+      → find bytes_cmp k (both key f (drop i es)) ≡ cond (bytes_eq k (key e.0)) (Some (f e.1)) (find bytes_cmp k (both key f (drop (i + 1) es)))
+  find_left es i e k lt is =
+      ap (λ xs. find bytes_cmp k (both key f xs)) (drop_more es i e lt ∙ ap (λ x. x ∷ drop (i + 1) es) (sym is))
+      ∙ ap (λ b. cond b (Some (f e.1)) (find bytes_cmp k (both key f (drop (i + 1) es)))) (is_eq-slice_cmp k (key e.0))
+
+  -- and none where none is left
+  pub find_none_left : (es : List (K × X)) (i : ℕ) (k : Text) → length es ≤ i → find bytes_cmp k (both key f (drop i es)) ≡ None
+  find_none_left [] zero k h = refl
+  find_none_left [] (suc i) k h = refl
+  find_none_left (x ∷ es) zero k h = absurd (omega (arith, h))
+  find_none_left (x ∷ es) (suc i) k h = find_none_left es i k (omega (arith, h))
 
   pub put_there : (es : List (K × X)) (i : ℕ) (k : K) (x : X) → T (is_sorted bytes_cmp (both key f es)) → i < length es → HoldsAt (λ e. bytes_cmp (key e.0) (key k) ≡ Equal) es i
       → both key f (set es i (k, x)) ≡ put bytes_cmp (key k) (f x) (both key f es)

@@ -2,7 +2,7 @@ use Rattle.std.proofs.Common.{sym, ap, ◌∙◌, Some}
 use Rattle.std.specs.Cow.{cow_str_bytes}
 use Rattle.fluent_values.specs.View.{value_view, named}
 use Rattle.fluent_values.specs.Facts.Pairs.{find_there, find_in_gap, rise_seen}
-use Rattle.fluent_values.proofs.args.FluentArgs.get.Goals as goal
+use Rattle.fluent_values.proofs.args.FluentArgs.by_order.Goals as goal
 
 pub returns-in-Ok : goal.returns-in-Ok
 unfolding named
