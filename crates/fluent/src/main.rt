@@ -1,11 +1,9 @@
 //! A program for people who translate: it checks, shows and lists the messages of FTL files.
 #![tactic(auto)]
 
-mod files;
-
-use files::{Content, Contents, Files};
 use fluent_cli::answer::{Answer, Status, request_of};
 use fluent_cli::run::{File, run};
+use fluent_cli_files::{Content, Contents, Files};
 use fluent_cli_words::{Request, ask};
 use std::alloc::AllocError;
 use std::io::ErrorKind;
