@@ -1,5 +1,7 @@
 /* Refuses memory to the program that it is loaded into: the N-th request where REFUSE_AT is N, and each from the N-th
-   on where REFUSE_FROM is N. At the first refusal it makes the file that REFUSED names. */
+   on where REFUSE_FROM is N. At the first refusal it makes the file that REFUSED names.
+   Where CHECKED is defined, it is linked into a program that 'rt try' compiles with checks. These have an allocator of their own,
+   and call the functions of these names for it where a program has them. */
 #define _GNU_SOURCE
 #include <dlfcn.h>
 #include <errno.h>
@@ -10,8 +12,6 @@
 static unsigned long at, from, seen;
 static const char *told;
 static int has_begun;
-static void *(*next_malloc)(size_t);
-static void *(*next_realloc)(void *, size_t);
 
 static unsigned long number(const char *name)
 {
@@ -41,6 +41,26 @@ static int is_refused(void)
     return 1;
 }
 
+#ifdef CHECKED
+
+void *___interceptor_malloc(size_t);
+void *___interceptor_realloc(void *, size_t);
+
+void *__interceptor_malloc(size_t size)
+{
+    return is_refused() ? 0 : ___interceptor_malloc(size);
+}
+
+void *__interceptor_realloc(void *old, size_t size)
+{
+    return is_refused() ? 0 : ___interceptor_realloc(old, size);
+}
+
+#else
+
+static void *(*next_malloc)(size_t);
+static void *(*next_realloc)(void *, size_t);
+
 void *malloc(size_t size)
 {
     if (!next_malloc)
@@ -54,3 +74,5 @@ void *realloc(void *old, size_t size)
         *(void **)&next_realloc = dlsym(RTLD_NEXT, "realloc");
     return is_refused() ? 0 : next_realloc(old, size);
 }
+
+#endif

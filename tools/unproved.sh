@@ -2,6 +2,7 @@
 # How ./fluent_show and ./fluent run their program without its proof, for a shell to read after tools/proved.sh.
 # 'rt try' compiles it, with checks that stop it at a fault, and keeps nothing. So it is given a long comment to read, and
 # while it reads, the program gets a second name. Under that it is kept in out/unproved, for all runs of the same sources.
+# tools/tests does so with programs of tests, and keeps them in out/tests.
 
 # A sum of what the program of a crate is compiled from: its sources, and the toolchain.
 sum_of_unproved() {
@@ -20,10 +21,14 @@ keep() {
 
 # Names what can be run below the folder $1/try also $1/program, until that folder is gone.
 catch_program() {
+    local it
+    shopt -s globstar nullglob
     while [ -d "$1/try" ]; do
-        find "$1/try" -type f -perm -u+x -exec ln -f {} "$1/program" \; 2> /dev/null
-        sleep 0.1
-    done
+        for it in "$1/try"/**; do
+            if [ -f "$it" ] && [ -x "$it" ]; then ln -f "$it" "$1/program"; fi
+        done
+        sleep 0.02
+    done 2> /dev/null
 }
 
 # Compiles the program of the crate $2 of the repository $1, as $4/program. By the words $3 it reads its standard input. Where it had

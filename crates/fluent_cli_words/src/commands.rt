@@ -102,110 +102,135 @@ fn check_of_files<'a>(alloc: Global) -> Result<Command<'a>, AllocError>
     let command = Command::new(alloc, "check").about(
         "Finds what is wrong with files, which count as one source: status 1 if there is an error",
     );
-    let language = option(
-        alloc,
-        "language",
-        "TAG",
-        "The language of the files, as 'pl': selects on numbers are held against its plural categories",
-    );
-    let reference = repeated_option(
-        alloc,
-        "reference",
-        "FILE",
-        "A file or folder of the language that the files were translated from (may be given again)",
-    );
-    let with = repeated_option(
-        alloc,
-        "with",
-        "FILE",
-        "A file or folder that is loaded with each of the others, as that of a brand's terms (may be given again)",
-    );
-    let translation = option(
-        alloc,
-        "translation",
-        "FOLDER",
-        "Checks each file in this folder against that of the same path in the folder of --reference",
-    );
-    let command = with_argument(command, language)?;
-    let command = with_argument(command, reference)?;
-    let command = with_argument(command, with)?;
-    with_argument(command, translation)
+    let command = with_argument(
+        command,
+        option(
+            alloc,
+            "language",
+            "TAG",
+            "The language of the files, as 'pl': selects on numbers are held against its plural categories",
+        ),
+    )?;
+    let command = with_argument(
+        command,
+        repeated_option(
+            alloc,
+            "reference",
+            "FILE",
+            "A file or folder of the language that the files were translated from (may be given again)",
+        ),
+    )?;
+    let command = with_argument(
+        command,
+        repeated_option(
+            alloc,
+            "with",
+            "FILE",
+            "A file or folder that is loaded with each of the others, as that of a brand's terms (may be given again)",
+        ),
+    )?;
+    with_argument(
+        command,
+        option(
+            alloc,
+            "translation",
+            "FOLDER",
+            "Checks each file in this folder against that of the same path in the folder of --reference",
+        ),
+    )
 }
 
 /// Adds how `check` tells what it finds.
 fn with_telling<'a>(alloc: Global, command: Command<'a>) -> Result<Command<'a>, AllocError>
     ensures { IfOk result (λ c. (app : App) → Reads app command.entry → Reads (with_telling app) c) }
 {
-    let format = option(
-        alloc,
-        "format",
-        "FORMAT",
-        "How findings are written: text, json, github or sarif [default: text]",
-    );
-    let quiet = flag(
-        alloc,
-        "quiet",
-        "Tells only what makes the status 1, without the counts",
-    );
-    let strict = flag(
-        alloc,
-        "strict",
-        "Ends with status 1 where there is a warning, too",
-    );
-    let every = flag(
-        alloc,
-        "every",
-        "Tells each finding, also where the first three with one cause would stand for all",
-    );
-    let command = with_argument(command, format)?;
-    let command = with_argument(command, quiet)?;
-    let command = with_argument(command, strict)?;
-    with_argument(command, every)
+    let command = with_argument(
+        command,
+        option(
+            alloc,
+            "format",
+            "FORMAT",
+            "How findings are written: text, json, github or sarif [default: text]",
+        ),
+    )?;
+    let command = with_argument(
+        command,
+        flag(
+            alloc,
+            "quiet",
+            "Tells only what makes the status 1, without the counts",
+        ),
+    )?;
+    let command = with_argument(
+        command,
+        flag(
+            alloc,
+            "strict",
+            "Ends with status 1 where there is a warning, too",
+        ),
+    )?;
+    with_argument(
+        command,
+        flag(
+            alloc,
+            "every",
+            "Tells each finding, also where the first three with one cause would stand for all",
+        ),
+    )
 }
 
 /// Adds how findings look where they are read on a screen.
 fn with_marks<'a>(alloc: Global, command: Command<'a>) -> Result<Command<'a>, AllocError>
     ensures { IfOk result (λ c. (app : App) → Reads app command.entry → Reads (with_marks app) c) }
 {
-    let caret = flag(
-        alloc,
-        "caret",
-        "Shows below each finding its line, with a mark under the place",
-    );
-    let color = flag(
-        alloc,
-        "color",
-        "Colors errors and warnings, as a terminal shows them",
-    );
-    let command = with_argument(command, caret)?;
-    with_argument(command, color)
+    let command = with_argument(
+        command,
+        flag(
+            alloc,
+            "caret",
+            "Shows below each finding its line, with a mark under the place",
+        ),
+    )?;
+    with_argument(
+        command,
+        flag(
+            alloc,
+            "color",
+            "Colors errors and warnings, as a terminal shows them",
+        ),
+    )
 }
 
 /// Adds what `check` looks for.
 fn with_looking<'a>(alloc: Global, command: Command<'a>) -> Result<Command<'a>, AllocError>
     ensures { IfOk result (λ c. (app : App) → Reads app command.entry → Reads (with_looking app) c) }
 {
-    let each = flag(
-        alloc,
-        "each",
-        "Checks each file for itself: none counts for another",
-    );
-    let all_categories = flag(
-        alloc,
-        "all-categories",
-        "Wants each plural category of the language, also those of fractions alone",
-    );
-    let function = repeated_option(
-        alloc,
-        "function",
-        "NAME",
-        "A function that the application adds (may be given again)",
-    );
-    let allow = repeated_option(alloc, "allow", "KIND", KINDS_HELP);
-    let command = with_argument(command, each)?;
-    let command = with_argument(command, all_categories)?;
-    let command = with_argument(command, function)?;
-    with_argument(command, allow)
+    let command = with_argument(
+        command,
+        flag(
+            alloc,
+            "each",
+            "Checks each file for itself: none counts for another",
+        ),
+    )?;
+    let command = with_argument(
+        command,
+        flag(
+            alloc,
+            "all-categories",
+            "Wants each plural category of the language, also those of fractions alone",
+        ),
+    )?;
+    let command = with_argument(
+        command,
+        repeated_option(
+            alloc,
+            "function",
+            "NAME",
+            "A function that the application adds (may be given again)",
+        ),
+    )?;
+    with_argument(command, repeated_option(alloc, "allow", "KIND", KINDS_HELP))
 }
 
 fn check_command<'a>(alloc: Global) -> Result<Command<'a>, AllocError>
@@ -214,13 +239,15 @@ fn check_command<'a>(alloc: Global) -> Result<Command<'a>, AllocError>
     let command = with_telling(alloc, check_of_files(alloc)?)?;
     let command = with_marks(alloc, command)?;
     let command = with_looking(alloc, command)?;
-    let files = any_words(
-        alloc,
-        "file",
-        "FILE",
-        "Files of one language, in the order in which they are read; a folder stands for those in it, '-' for standard input",
-    );
-    with_argument(command, files)
+    with_argument(
+        command,
+        any_words(
+            alloc,
+            "file",
+            "FILE",
+            "Files of one language, in the order in which they are read; a folder stands for those in it, '-' for standard input",
+        ),
+    )
 }
 
 /// `show` with its options.
@@ -230,75 +257,93 @@ fn show_with_options<'a>(alloc: Global) -> Result<Command<'a>, AllocError>
     let command = Command::new(alloc, "show").about(
         "Shows a message as an application would, and what goes wrong in it on standard error",
     );
-    let language = option(
-        alloc,
-        "language",
-        "TAG",
-        "The language whose plural rules are used [default: en]",
-    );
-    let fallback = repeated_option(
-        alloc,
-        "fallback",
-        "FILE",
-        "A file that is asked where those before it lack the message (may be given again)",
-    );
-    let text = repeated_option(
-        alloc,
-        "text",
-        "NAME=VALUE",
-        "An argument that is a text, also where it reads as a number (may be given again)",
-    );
-    let strict = flag(
-        alloc,
-        "strict",
-        "Ends with status 1 where there was an error",
-    );
-    let command = with_argument(command, language)?;
-    let command = with_argument(command, fallback)?;
-    let command = with_argument(command, text)?;
-    with_argument(command, strict)
+    let command = with_argument(
+        command,
+        option(
+            alloc,
+            "language",
+            "TAG",
+            "The language whose plural rules are used [default: en]",
+        ),
+    )?;
+    let command = with_argument(
+        command,
+        repeated_option(
+            alloc,
+            "fallback",
+            "FILE",
+            "A file that is asked where those before it lack the message (may be given again)",
+        ),
+    )?;
+    let command = with_argument(
+        command,
+        repeated_option(
+            alloc,
+            "text",
+            "NAME=VALUE",
+            "An argument that is a text, also where it reads as a number (may be given again)",
+        ),
+    )?;
+    with_argument(
+        command,
+        flag(
+            alloc,
+            "strict",
+            "Ends with status 1 where there was an error",
+        ),
+    )
 }
 
 /// Adds what an application loads and adds beside the files.
 fn with_loading<'a>(alloc: Global, command: Command<'a>) -> Result<Command<'a>, AllocError>
     ensures { IfOk result (λ c. (app : App) → Reads app command.entry → Reads (with_loading app) c) }
 {
-    let with = repeated_option(
-        alloc,
-        "with",
-        "FILE",
-        "A file or folder that is loaded with each of the others, as that of a brand's terms (may be given again)",
-    );
-    let function = repeated_option(
-        alloc,
-        "function",
-        "NAME",
-        "A function that the application adds: what it gives is shown as NAME() (may be given again)",
-    );
-    let command = with_argument(command, with)?;
-    with_argument(command, function)
+    let command = with_argument(
+        command,
+        repeated_option(
+            alloc,
+            "with",
+            "FILE",
+            "A file or folder that is loaded with each of the others, as that of a brand's terms (may be given again)",
+        ),
+    )?;
+    with_argument(
+        command,
+        repeated_option(
+            alloc,
+            "function",
+            "NAME",
+            "A function that the application adds: what it gives is shown as NAME() (may be given again)",
+        ),
+    )
 }
 
 fn show_command<'a>(alloc: Global) -> Result<Command<'a>, AllocError>
     ensures { IfOk result (Reads (alone show_command)) }
 {
     let command = with_loading(alloc, show_with_options(alloc)?)?;
-    let file = one_word(alloc, "file", "FILE", "The file of the message");
-    let id = one_word(
-        alloc,
-        "id",
-        "ID[.ATTRIBUTE]",
-        "The message, or an attribute of it",
-    );
-    let arguments = any_words(
-        alloc,
-        "argument",
-        "NAME=VALUE",
-        "Arguments: each a number where its value reads as one, and else a text",
-    );
-    let command = with_argument(command, file)?;
-    let command = with_argument(command, id)?;
-    with_argument(command, arguments)
+    let command = with_argument(
+        command,
+        one_word(alloc, "file", "FILE", "The file of the message"),
+    )?;
+    let command = with_argument(
+        command,
+        one_word(
+            alloc,
+            "id",
+            "ID[.ATTRIBUTE]",
+            "The message, or an attribute of it",
+        ),
+    )?;
+    with_argument(
+        command,
+        any_words(
+            alloc,
+            "argument",
+            "NAME=VALUE",
+            "Arguments: each a number where its value reads as one, and else a text",
+        ),
+    )
 }
 
 fn list_command<'a>(alloc: Global) -> Result<Command<'a>, AllocError>
@@ -307,13 +352,15 @@ fn list_command<'a>(alloc: Global) -> Result<Command<'a>, AllocError>
     let command = Command::new(alloc, "list").about(
         "Lists messages and terms, with the variables that each asks for",
     );
-    let files = some_words(
-        alloc,
-        "file",
-        "FILE",
-        "Files of one language, in the order in which they are read",
-    );
-    with_argument(command, files)
+    with_argument(
+        command,
+        some_words(
+            alloc,
+            "file",
+            "FILE",
+            "Files of one language, in the order in which they are read",
+        ),
+    )
 }
 
 /// The program without its subcommands.

@@ -7,7 +7,7 @@ use Rattle.fluent_cli_words.proofs.commands.show_with_options.Goals as goal
 pub returns : goal.returns
 returns c =
     let named : Reads (new_app (codes "show")) c.about-command.result = search rules in
-    let language = c.in_ok-command.ensures _ _ named c.option-language.ensures in
-    let fallback = c.in_ok-command-2.ensures _ _ language c.repeated_option-fallback.ensures in
-    let text = c.in_ok-command-3.ensures _ _ fallback c.repeated_option-text.ensures in
-    with_one _ _ _ _ _ c.with_argument-4.ensures text c.flag-strict.ensures
+    let language = c.in_ok-command.ensures _ _ named c.option.ensures in
+    let fallback = c.in_ok-command-2.ensures _ _ language c.repeated_option.ensures in
+    let text = c.in_ok-command-3.ensures _ _ fallback c.repeated_option-2.ensures in
+    with_one _ _ _ _ _ c.with_argument-4.ensures text c.flag.ensures

@@ -5,8 +5,8 @@ pub returns : goal.returns
 returns c =
     IfOk-weaker c.with_argument-4.result _ _
     (λ command adds app reads.
-    let each = c.in_ok-command.ensures app _ reads c.flag-each.ensures in
-    let all_categories = c.in_ok-command-2.ensures _ _ each c.flag-all_categories.ensures in
-    let function = c.in_ok-command-3.ensures _ _ all_categories c.repeated_option-function.ensures in
-    adds _ _ function c.repeated_option-allow.ensures)
+    let each = c.in_ok-command.ensures app _ reads c.flag.ensures in
+    let all_categories = c.in_ok-command-2.ensures _ _ each c.flag-2.ensures in
+    let function = c.in_ok-command-3.ensures _ _ all_categories c.repeated_option.ensures in
+    adds _ _ function c.repeated_option-2.ensures)
     c.with_argument-4.ensures

@@ -1,0 +1,13 @@
+//! What can be proved of the crates by their contracts alone, in another crate: objects of an application's own, bundles that
+//! are composed, equality, and worked rows of definitions. The tests in `tests/` use them.
+#![tactic(auto)]
+
+pub mod alone;
+pub mod composing;
+pub mod equality;
+pub mod failing;
+pub mod functions;
+pub mod own;
+pub mod rows;
+pub mod shade;
+pub mod whole;
