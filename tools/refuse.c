@@ -1,7 +1,7 @@
 /* Refuses memory to the program that it is loaded into: the N-th request where REFUSE_AT is N, and each from the N-th
    on where REFUSE_FROM is N. At the first refusal it makes the file that REFUSED names.
-   Where CHECKED is defined, it is linked into a program that 'rt try' compiles with checks. These have an allocator of their own,
-   and call the functions of these names for it where a program has them. */
+   Where CHECKED is defined, it is linked into a program with the checks of addresses that 'rt try' compiles in. Their own malloc
+   calls the program's __interceptor_malloc where there is one, as here. */
 #define _GNU_SOURCE
 #include <dlfcn.h>
 #include <errno.h>

@@ -52,7 +52,7 @@ pub fn with_formatter<
     bundle
 }
 
-/// A bundle with a transform, a function and a resource.
+/// A bundle with a transform, a function and a resource. It is proved, and needn't be called.
 fn with_function<
     'r,
     's,

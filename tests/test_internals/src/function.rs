@@ -1,89 +1,47 @@
-//! A function of an application, kept with its fact, and the objects that stand for none of an application's own.
+//! Functions of an application that are kept, and the objects that stand for none of an application's own.
 
 use crate::common::{Given, is_shown, values};
 use fluent_intl::EnglishPlurals;
 use fluent_values::types::{FluentType, FluentValue, NoCustom};
 use fluent_values::{
-    AnswerRule, Answering, FluentArgs, FluentFormatter, FluentFunction, FunctionOf, NoFormatter,
-    NoFunction, NoTransform, Transform,
+    FluentArgs, FluentFormatter, FluentFunction, NoFormatter, NoFunction, NoTransform, Transform,
 };
 use std::alloc::{AllocError, Global};
 use std::test::Fail;
-use test_contracts::functions::{FirstValue, Greeting, first};
-
-/// That a function answers a row without named arguments with the value that is shown so.
-fn answers<F: FluentFunction<NoCustom>>(
-    alloc: Global,
-    function: &F,
-    positional: &[Given],
-    text: &str,
-) -> Result<bool, AllocError> {
-    let positional = values(alloc, positional)?;
-    let arguments = FluentArgs::new(alloc);
-    let answer = function.call(alloc, positional.as_slice(), &arguments)?;
-    is_shown(alloc, &answer, text)
-}
+use test_contracts::functions::{captured, first_by_closure, first_by_function};
 
 const BOTH: &[Given] = &[Given::Text("a"), Given::Text("b")];
 
-/// Two positional values have this answer, and none have an error.
-fn answers_both<F: FluentFunction<NoCustom>>(
+/// Whether the call of each function that is kept, with these values and no named arguments, is shown so: of two that answer the first
+/// value, and of one that answers what it has captured.
+fn answer_so(
     alloc: Global,
-    function: &F,
-    text: &str,
+    positional: &[Given],
+    first: &str,
+    greeting: &str,
 ) -> Result<bool, AllocError> {
-    Ok(answers(alloc, function, BOTH, text)? && answers(alloc, function, &[], "error")?)
-}
-
-/// That what answers by a rule and is kept answers so, and no positional values with another text.
-fn kept_answers<K: Answering<NoCustom, N> + Drop, N: AnswerRule<NoCustom>>(
-    alloc: Global,
-    closure: K,
-    text: &str,
-    none: &str,
-) -> Result<bool, AllocError> {
-    let function = FunctionOf::<NoCustom, K, N>::new(closure);
-    Ok(answers(alloc, &function, BOTH, text)? && answers(alloc, &function, &[], none)?)
-}
-
-/// The same of a closure, whose shape the bound gives it.
-fn closure_answers<K, N: AnswerRule<NoCustom>>(
-    alloc: Global,
-    closure: K,
-    text: &str,
-    none: &str,
-) -> Result<bool, AllocError>
-where
-    K: for<'a> Fn(
-        Global,
-        &[FluentValue<'a, NoCustom>],
-        &FluentArgs<'a, NoCustom>,
-    ) -> Result<FluentValue<'a, NoCustom>, AllocError>
-        + Drop,
-{
-    kept_answers::<K, N>(alloc, closure, text, none)
-}
-
-fn first_of_closure(alloc: Global) -> Result<bool, AllocError> {
-    closure_answers::<_, FirstValue>(
-        alloc,
-        |alloc, positional, _arguments| match positional.first() {
-            Some(value) => value.try_clone(alloc),
-            None => Ok(FluentValue::Error),
-        },
-        "\"a\"",
-        "error",
+    let positional = values(alloc, positional)?;
+    let arguments = FluentArgs::new(alloc);
+    let by_function = first_by_function(alloc, positional.as_slice(), &arguments)?;
+    let by_closure = first_by_closure(alloc, positional.as_slice(), &arguments)?;
+    let by_capture = captured(alloc, positional.as_slice(), &arguments)?;
+    Ok(
+        is_shown(alloc, &by_function, first)?
+            && is_shown(alloc, &by_closure, first)?
+            && is_shown(alloc, &by_capture, greeting)?,
     )
 }
 
-fn captured(alloc: Global) -> Result<bool, AllocError> {
-    let greeting = "hello";
-    closure_answers::<_, Greeting>(
+/// Whether no function answers an error, whatever it is given.
+fn no_function(alloc: Global, positional: &[Given]) -> Result<bool, AllocError> {
+    let positional = values(alloc, positional)?;
+    let arguments = FluentArgs::new(alloc);
+    let answer: FluentValue<'_, NoCustom> = NoFunction.call(
         alloc,
-        move |_alloc, _positional, _arguments| Ok(FluentValue::from(greeting)),
-        "\"hello\"",
-        "\"hello\"",
-    )
+        positional.as_slice(),
+        &arguments,
+    )?;
+    is_shown(alloc, &answer, "error")
 }
 
 /// Run with each allocation failing in turn.
@@ -91,10 +49,10 @@ fn captured(alloc: Global) -> Result<bool, AllocError> {
 fn a_kept_function_answers_by_its_rule_and_no_function_an_error(
     rt: HostRuntime,
 ) -> Result<(), Fail> {
-    assert!(rt; kept_answers::<_, FirstValue>(rt.alloc(), first, "\"a\"", "error")?);
-    assert!(rt; first_of_closure(rt.alloc())?);
-    assert!(rt; captured(rt.alloc())?);
-    assert!(rt; answers_both(rt.alloc(), &NoFunction, "error")?);
+    assert!(rt; answer_so(rt.alloc(), BOTH, "\"a\"", "\"hello\"")?);
+    assert!(rt; answer_so(rt.alloc(), &[], "error", "\"hello\"")?);
+    assert!(rt; no_function(rt.alloc(), BOTH)?);
+    assert!(rt; no_function(rt.alloc(), &[])?);
     Ok(())
 }
 

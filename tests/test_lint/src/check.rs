@@ -1,8 +1,7 @@
 //! What a test asserts.
 use std::process::Abort;
 
-/// Asserts that something holds. A call is one step of a test's proof, where `assert!` puts its message and its end
-/// into it.
+/// Asserts that something holds.
 pub fn check(rt: &impl Abort, holds: bool, what: &str) {
     assert!(rt; holds, "{what}");
 }

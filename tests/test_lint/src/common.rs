@@ -1,5 +1,4 @@
-//! What the tests share: sources, bundles, and findings as text. A call that stands here without a contract keeps what the
-//! bundle's contract says from the tests, which rest on none of it.
+//! What the tests share: sources, bundles, and findings as text.
 use fluent_bundle::{
     Call, EnglishPlurals, FluentBundle, FluentResource, NoCustom, NoFormatter, NoFunction,
     NoTransform, TryNewFault,

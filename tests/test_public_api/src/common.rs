@@ -1,5 +1,4 @@
-//! What the tests share: sources, bundles and arguments. A call that stands here without a contract keeps what the
-//! bundle's contract says from the tests, which rest on none of it.
+//! What the tests share: sources, bundles and arguments.
 use fluent_bundle::ast::{Entry, Message, Pattern};
 use fluent_bundle::{
     Call, FluentArgs, FluentBundle, FluentError, FluentResource, FluentValue, NoCustom, Scope,

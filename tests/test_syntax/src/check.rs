@@ -3,8 +3,7 @@ use std::alloc::{AllocError, Global};
 use std::fmt::Debug;
 use std::process::Abort;
 
-/// Asserts that something holds. A call is one step of a test's proof, where `assert!` puts its message and its end
-/// into it.
+/// Asserts that something holds.
 pub fn check(rt: &impl Abort, holds: bool, what: &str) {
     assert!(rt; holds, "{what}");
 }

@@ -1,4 +1,4 @@
-//! The reader, called where no contract is seen: what it reads, with Junk or without.
+//! The reader: what it reads, with Junk or without.
 use fluent_syntax::ast::Resource;
 use fluent_syntax::{ParseFault, ParserError, parse_runtime};
 use std::alloc::{AllocError, Global};

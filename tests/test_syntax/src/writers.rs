@@ -1,23 +1,8 @@
 //! What no clause of `fluent_syntax` says of writers that fail.
-
 use crate::check::{Row, check, check_rows};
-use fluent_grammar_laws::{
-    chunks_make_up, entries_are_well_formed, junk_ranges_in_order, read_from_there_on,
-    texts_are_slices,
-};
 use fluent_syntax::{Counting, WriteFault, put};
 use std::alloc::Global;
 use std::io;
-
-#[test]
-fn laws_speak_of_any_source() {
-    let source = "a = 1\nb = {\n";
-    chunks_make_up(source);
-    junk_ranges_in_order(source);
-    entries_are_well_formed(source);
-    texts_are_slices(source);
-    read_from_there_on(source);
-}
 
 /// Takes at most `step` bytes a call, and fails at the call that follows the first `good` ones.
 #[derive(Drop)]
