@@ -75,3 +75,44 @@ run_unproved() {
     env -i "$room/program" "$@"
     exit
 }
+
+# What 'rt try' is told of the crate of tests $1. A program is run for a second, and not by the interpreter.
+words_of() {
+    [ -f "tests/$1/src/main.rs" ] || { echo --test && return; }
+    printf '%s\n' --steps 1 --seconds 1 --
+    cat "tests/$1/args" 2> /dev/null
+}
+
+# Compiles the crate of tests $1 of the repository $2/copy, as $2/program, with tools/refuse.c. 'rt try' runs it too, on a long comment,
+# and where it ended before the program was caught, once more.
+compile_tests() {
+    local tried words
+    mapfile -t words < <(words_of "$1")
+    mkdir "$2/copy/crates/$1/c" && cp tools/refuse.c "$2/copy/crates/$1/c/" || return 1
+    for tried in 1 2 3; do
+        mkdir "$2/try" || return 1
+        catch_program "$2" &
+        yes '# a comment' | head -c 2000000 |
+            (cd "$2/copy/crates/$1" && RT_ALLOW_C=$1 CFLAGS=-DCHECKED TMPDIR=$2/try exec rt try "${words[@]}") > "$2/said" 2>&1
+        rm -rf "$2/try"
+        wait
+        if [ -x "$2/program" ] || ! grep -Eq '^(test result: |run=(ended|no-answer) )' "$2/said"; then break; fi
+        echo "$1: the program of try $tried wasn't caught"
+    done
+    [ -x "$2/program" ] || { cat "$2/said" && echo "$1 can't be compiled" && false; }
+}
+
+# Puts the crate of tests $1, and those that it stands on, into a repository of their own, $2. It runs in the top folder, as the rest.
+copy_tests() {
+    local crates
+    [ -d "tests/$1" ] && mapfile -t crates < <(crates_for . "$1") && [ "${#crates[@]}" -gt 0 ] ||
+        { echo "tests/tests.txt has no crate $1" && return 1; }
+    copy_crates . "$2" "${crates[@]}"
+}
+
+# Compiles the crate of tests $1 of the repository $2/copy, where it isn't kept as out/tests/$1.
+keep_tests() {
+    local sum kept=$PWD/out/tests/$1
+    sum=$({ sum_of_unproved "$2/copy" "$1" && cat tools/refuse.c; } | sha256sum)
+    is_kept "$kept" "$sum" || { compile_tests "$1" "$2" && keep "$2/program" "$kept" "$sum"; }
+}

@@ -1,12 +1,12 @@
 //! The arguments of a message.
 use crate::bundle::English;
 use crate::showing::show;
-use anyhow::Result;
 use fluent_bundle::{FluentArgs, FluentValue};
 use std::borrow::CowStr;
+use std::io;
 
 /// Shows messages with a text and with numbers.
-pub fn show_arguments(rt: &HostRuntime, bundle: &English<'_, '_>) -> Result<()> {
+pub fn show_arguments(rt: &HostRuntime, bundle: &English<'_, '_>) -> io::Result<()> {
     let mut args = FluentArgs::new(rt.alloc());
     args.set(CowStr::Borrowed("name"), FluentValue::from("John"))?;
     args.set(CowStr::Borrowed("count"), FluentValue::from(1))?;

@@ -1,13 +1,13 @@
 //! A value of a type of one's own.
 use crate::bundle::show_left;
 use crate::showing::show;
-use anyhow::Result;
 use fluent_bundle::{
     EnglishPlurals, FluentArgs, FluentBundle, FluentResource, FluentType, FluentValue, NoFormatter,
     NoFunction,
 };
 use std::alloc::{AllocError, Global};
 use std::borrow::CowStr;
+use std::io;
 
 /// A version of a program.
 #[derive(Clone, Copy, Drop)]
@@ -42,7 +42,7 @@ impl FluentType for Version {
 }
 
 /// Shows a version.
-pub fn show_custom(rt: &HostRuntime, resource: &FluentResource<'_>) -> Result<()> {
+pub fn show_custom(rt: &HostRuntime, resource: &FluentResource<'_>) -> io::Result<()> {
     let mut bundle: FluentBundle<EnglishPlurals, Version, NoFunction, NoFormatter> =
         FluentBundle::new_default(rt.alloc())?;
     show_left(rt, bundle.add_resource(resource))?;

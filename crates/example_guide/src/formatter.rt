@@ -1,13 +1,13 @@
 //! A formatter.
 use crate::bundle::show_left;
 use crate::showing::show;
-use anyhow::Result;
 use fluent_bundle::{
     EnglishPlurals, FluentArgs, FluentBundle, FluentFormatter, FluentNumber, FluentResource,
     FluentValue, NoCustom, NoFunction,
 };
 use std::alloc::{AllocError, Global};
 use std::borrow::CowStr;
+use std::io;
 
 /// Shows a number that has a currency with the currency's code after it.
 #[derive(Clone, Copy, Drop)]
@@ -36,7 +36,7 @@ impl<M> FluentFormatter<NoCustom, M> for Prices {
 }
 
 /// Shows a price.
-pub fn show_formatter(rt: &HostRuntime, resource: &FluentResource<'_>) -> Result<()> {
+pub fn show_formatter(rt: &HostRuntime, resource: &FluentResource<'_>) -> io::Result<()> {
     let mut bundle: FluentBundle<EnglishPlurals, NoCustom, NoFunction, Prices> =
         FluentBundle::new_default(rt.alloc())?;
     bundle.set_formatter(Some(Prices));

@@ -1,13 +1,13 @@
 //! Functions of one's own.
 use crate::bundle::show_left;
 use crate::showing::show;
-use anyhow::Result;
 use fluent_bundle::{
     EnglishPlurals, FluentArgs, FluentBundle, FluentFunction, FluentResource, FluentValue,
     NoCustom, NoFormatter,
 };
 use std::alloc::{AllocError, Global};
 use std::borrow::CowStr;
+use std::io;
 
 /// The functions that messages of this application call.
 #[derive(Clone, Copy, Drop)]
@@ -46,7 +46,7 @@ impl FluentFunction<NoCustom> for Own {
 }
 
 /// Shows messages that call functions.
-pub fn show_functions(rt: &HostRuntime, resource: &FluentResource<'_>) -> Result<()> {
+pub fn show_functions(rt: &HostRuntime, resource: &FluentResource<'_>) -> io::Result<()> {
     let mut bundle: FluentBundle<EnglishPlurals, NoCustom, Own, NoFormatter> =
         FluentBundle::new_default(rt.alloc())?;
     show_left(rt, bundle.add_function("PLATFORM", Own::Platform))?;

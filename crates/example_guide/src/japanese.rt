@@ -1,12 +1,12 @@
 //! A plural source of one's own.
 use crate::bundle::show_left;
 use crate::showing::show;
-use anyhow::Result;
 use fluent_bundle::{
     FluentArgs, FluentBundle, FluentResource, FluentValue, MemoizerKind, NoCustom, NoFormatter,
     NoFunction, PluralCategory, PluralOperands, PluralRuleType,
 };
 use std::borrow::CowStr;
+use std::io;
 
 /// The plural rules of Japanese, which has one category for all numbers.
 #[derive(Clone, Copy, Drop)]
@@ -26,7 +26,7 @@ impl MemoizerKind for Japanese {
 type Bundle<'r, 's> = FluentBundle<'r, 's, Japanese, NoCustom, NoFunction, NoFormatter>;
 
 /// Shows a message for one, which is no `one` in Japanese.
-pub fn show_one(rt: &HostRuntime, resource: &FluentResource<'_>) -> Result<()> {
+pub fn show_one(rt: &HostRuntime, resource: &FluentResource<'_>) -> io::Result<()> {
     let alloc = rt.alloc();
     let mut bundle: Bundle<'_, '_> = FluentBundle::new(alloc, Vec::new(alloc), Japanese);
     show_left(rt, bundle.add_resource(resource))?;

@@ -5,12 +5,12 @@ ghost use Rattle.fluent_values.specs.View.{value_view};
 
 use crate::bundle::show_left;
 use crate::showing::show;
-use anyhow::Result;
 use fluent_bundle::{
     AnswerRule, Answering, EnglishPlurals, FluentArgs, FluentBundle, FluentResource, FluentValue,
     FunctionOf, NoCustom, NoFormatter,
 };
 use std::alloc::{AllocError, Global};
+use std::io;
 
 /// Always `hello`.
 struct Greeting;
@@ -34,7 +34,7 @@ fn show_greeting<K: Answering<NoCustom, Greeting> + Drop>(
     rt: &HostRuntime,
     resource: &FluentResource<'_>,
     greets: K,
-) -> Result<()>
+) -> io::Result<()>
     requires { K.ready greets }
 {
     let mut bundle: FluentBundle<
@@ -49,6 +49,6 @@ fn show_greeting<K: Answering<NoCustom, Greeting> + Drop>(
 }
 
 /// Shows a message that calls the function above.
-pub fn show_kept(rt: &HostRuntime, resource: &FluentResource<'_>) -> Result<()> {
+pub fn show_kept(rt: &HostRuntime, resource: &FluentResource<'_>) -> io::Result<()> {
     show_greeting(rt, resource, hello)
 }

@@ -17,14 +17,13 @@ mod several;
 mod showing;
 mod welcome;
 
-use anyhow::Result;
 use bundle::english_bundle;
 use fluent_bundle::FluentResource;
 use reading::read;
 use std::io;
 
 /// Shows what a bundle in English gives.
-fn show_english(rt: &HostRuntime, resource: &FluentResource<'_>) -> Result<()> {
+fn show_english(rt: &HostRuntime, resource: &FluentResource<'_>) -> io::Result<()> {
     let bundle = english_bundle(rt, resource)?;
 
     println!(rt; "Arguments")?;
@@ -38,7 +37,7 @@ fn show_english(rt: &HostRuntime, resource: &FluentResource<'_>) -> Result<()> {
 }
 
 /// Shows what an application hands to a bundle.
-fn show_own(rt: &HostRuntime, resource: &FluentResource<'_>) -> Result<()> {
+fn show_own(rt: &HostRuntime, resource: &FluentResource<'_>) -> io::Result<()> {
     println!(rt; "Functions of one's own")?;
     functions::show_functions(rt, resource)?;
 
@@ -56,7 +55,7 @@ fn show_own(rt: &HostRuntime, resource: &FluentResource<'_>) -> Result<()> {
 }
 
 /// Shows where plural categories come from.
-fn show_languages(rt: &HostRuntime, resource: &FluentResource<'_>) -> Result<()> {
+fn show_languages(rt: &HostRuntime, resource: &FluentResource<'_>) -> io::Result<()> {
     println!(rt; "The plural rules of a language")?;
     plurals::show_plurals(rt, resource)?;
 
@@ -68,7 +67,7 @@ fn show_languages(rt: &HostRuntime, resource: &FluentResource<'_>) -> Result<()>
 }
 
 /// Shows bundles of the messages.
-fn show_bundles(rt: &HostRuntime, resource: &FluentResource<'_>) -> Result<()> {
+fn show_bundles(rt: &HostRuntime, resource: &FluentResource<'_>) -> io::Result<()> {
     println!(rt; "A bundle")?;
     bundle::show_twice(rt, resource)?;
     show_english(rt, resource)?;
@@ -76,7 +75,7 @@ fn show_bundles(rt: &HostRuntime, resource: &FluentResource<'_>) -> Result<()> {
     show_languages(rt, resource)
 }
 
-fn main(rt: HostRuntime) -> Result<()> {
+fn main(rt: HostRuntime) -> io::Result<()> {
     println!(rt; "A text in a program")?;
     welcome::show_welcome(&rt)?;
 

@@ -1,16 +1,18 @@
 //! A message and its attributes.
 use crate::bundle::English;
 use crate::showing::show_errors;
-use anyhow::{Context, Result};
 use fluent_bundle::{FluentArgs, FluentValue};
 use std::borrow::CowStr;
+use std::io;
 
 /// Shows the value of a message and each of its attributes.
-pub fn show_message(rt: &HostRuntime, bundle: &English<'_, '_>) -> Result<()> {
+pub fn show_message(rt: &HostRuntime, bundle: &English<'_, '_>) -> io::Result<()> {
     let mut args = FluentArgs::new(rt.alloc());
     args.set(CowStr::Borrowed("name"), FluentValue::from("John"))?;
     let mut errors = Vec::new(rt.alloc());
-    let message = bundle.get_message("login").context("no such message")?;
+    let Some(message) = bundle.get_message("login") else {
+        return println!(rt; "login");
+    };
     if let Some(pattern) = message.value() {
         let text = bundle.format_pattern(pattern, Some(&args), &mut errors)?;
         println!(rt; "{}", text.as_str())?;

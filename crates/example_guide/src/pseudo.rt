@@ -1,16 +1,17 @@
 //! A transform: texts that look translated, to try an application before any translation is there.
 ghost use Rattle.std.specs.Prelude.{◌≡◌, IfOk};
-ghost use Rattle.fluent_bundle.specs.BundleView.{entries_of};
+ghost use Rattle.fluent_resource.specs.ResourceView.{entries_of};
 ghost use Rattle.example_guide.specs.Accents.{accented, accented_english};
 
+use crate::bundle::show_left;
 use crate::showing::show;
-use anyhow::Context;
 use fluent_bundle::{
     AddFault, EnglishPlurals, FluentArgs, FluentBundle, FluentResource, FluentValue, Means,
     NoCustom, NoFormatter, NoFunction, Transform,
 };
 use std::alloc::{AllocError, Global};
 use std::borrow::CowStr;
+use std::io;
 
 /// Puts accents on vowels.
 #[derive(Clone, Copy, Drop)]
@@ -66,10 +67,11 @@ pub fn accented_bundle<'r, 's>(
 }
 
 /// Shows a message in accents, but for its argument.
-pub fn show_transform(rt: &HostRuntime, resource: &FluentResource<'_>) -> anyhow::Result<()> {
-    let bundle = accented_bundle(rt.alloc(), resource)
-        .ok()
-        .context("not added")?;
+pub fn show_transform(rt: &HostRuntime, resource: &FluentResource<'_>) -> io::Result<()> {
+    let bundle = match accented_bundle(rt.alloc(), resource) {
+        Ok(bundle) => bundle,
+        Err(fault) => return show_left(rt, Err(fault)),
+    };
     let mut args = FluentArgs::new(rt.alloc());
     args.set(CowStr::Borrowed("name"), FluentValue::from("Joe"))?;
     show(rt, &bundle, "intro", Some(&args))

@@ -1,9 +1,10 @@
 //! Reading a resource.
-use anyhow::{Result, bail};
 use fluent_bundle::{FluentResource, TryNewFault};
+use std::alloc::AllocError;
+use std::io;
 
 /// Reads a source, and shows what of it can't be read. The rest of it is there all the same.
-pub fn read<'s>(rt: &HostRuntime, source: &'s str) -> Result<FluentResource<'s>> {
+pub fn read<'s>(rt: &HostRuntime, source: &'s str) -> io::Result<FluentResource<'s>> {
     match FluentResource::try_new(rt.alloc(), source) {
         Ok(resource) => Ok(resource),
         Err(TryNewFault::Parser(resource, errors)) => {
@@ -12,6 +13,6 @@ pub fn read<'s>(rt: &HostRuntime, source: &'s str) -> Result<FluentResource<'s>>
             }
             Ok(resource)
         }
-        Err(TryNewFault::Memory) => bail!("out of memory"),
+        Err(TryNewFault::Memory) => Err(AllocError.into()),
     }
 }

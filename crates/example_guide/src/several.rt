@@ -1,6 +1,5 @@
 //! Texts in the languages that somebody reads.
 use crate::showing::show_errors;
-use anyhow::{Context, Result};
 use fluent_bundle::{
     FluentArgs, FluentBundle, FluentResource, FluentValue, NoCustom, NoFormatter, NoFunction,
 };
@@ -9,6 +8,8 @@ use fluent_langneg::negotiate;
 use fluent_plural_rules::RuleTexts;
 use std::borrow::CowStr;
 use std::fmt::Display;
+use std::io;
+use std::io::ErrorKind;
 
 /// The bundle of a language.
 type Texts<'r, 's> = FluentBundle<'r, 's, RuleTexts, NoCustom, NoFunction, NoFormatter>;
@@ -34,7 +35,7 @@ letters = { $count ->
 ];
 
 /// Shows texts in the languages that somebody reads, of those that there are.
-pub fn show_several(rt: &HostRuntime, requested: &[&str]) -> Result<()> {
+pub fn show_several(rt: &HostRuntime, requested: &[&str]) -> io::Result<()> {
     let mut resources = Vec::new(rt.alloc());
     let mut reports = Vec::new(rt.alloc());
     for place in negotiate(rt.alloc(), requested, &TAGS, "en")? {
@@ -51,10 +52,10 @@ fn show_from<'s>(
     rt: &HostRuntime,
     resources: &[(&'s str, FluentResource<'s>)],
     mut reports: Vec<Report<'s>>,
-) -> Result<()> {
+) -> io::Result<()> {
     let mut catalog = Catalog::new(rt.alloc());
     for (tag, resource) in resources {
-        let plurals = RuleTexts::of_language(*tag).context("no such language")?;
+        let plurals = RuleTexts::of_language(*tag).ok_or(ErrorKind::Unsupported)?;
         let mut texts: Texts<'_, 's> = FluentBundle::new(rt.alloc(), Vec::new(rt.alloc()), plurals);
         add_source(&mut texts, *tag, resource, &mut reports)?;
         catalog.push(*tag, texts)?;
@@ -64,7 +65,7 @@ fn show_from<'s>(
 }
 
 /// Shows two texts, each in the first language that has it.
-fn show_letters<'r, 's: 'r>(rt: &HostRuntime, catalog: &Languages<'r, 's>) -> Result<()> {
+fn show_letters<'r, 's: 'r>(rt: &HostRuntime, catalog: &Languages<'r, 's>) -> io::Result<()> {
     let mut args = FluentArgs::new(rt.alloc());
     args.set(CowStr::Borrowed("count"), FluentValue::from(3))?;
     let mut errors = Vec::new(rt.alloc());
@@ -79,7 +80,7 @@ fn show_letters<'r, 's: 'r>(rt: &HostRuntime, catalog: &Languages<'r, 's>) -> Re
 type Languages<'r, 's> = Catalog<'r, 's, RuleTexts, NoCustom, NoFunction, NoFormatter>;
 
 /// Shows what is wrong with the sources.
-fn show_reports(rt: &HostRuntime, reports: &[Report<'_>]) -> Result<()> {
+fn show_reports(rt: &HostRuntime, reports: &[Report<'_>]) -> io::Result<()> {
     for report in reports {
         match report {
             Report::Unreadable(tag, errors) => show_each(rt, *tag, errors.as_slice())?,
@@ -90,7 +91,7 @@ fn show_reports(rt: &HostRuntime, reports: &[Report<'_>]) -> Result<()> {
 }
 
 /// Shows errors of a language, each on a line.
-fn show_each<E: Display>(rt: &HostRuntime, tag: &str, errors: &[E]) -> Result<()> {
+fn show_each<E: Display>(rt: &HostRuntime, tag: &str, errors: &[E]) -> io::Result<()> {
     for error in errors {
         println!(rt; "{tag}: {error}")?;
     }

@@ -1,9 +1,9 @@
 //! Showing messages and errors.
-use anyhow::Result;
 use fluent_bundle::{
     FluentArgs, FluentBundle, FluentError, FluentFormatter, FluentFunction, FluentType,
     MemoizerKind, Transform,
 };
+use std::io;
 
 /// Shows the value of a message, or its id where the bundle has none, and then what went wrong.
 pub fn show<
@@ -19,7 +19,7 @@ pub fn show<
     bundle: &FluentBundle<'r, 's, M, C, F, G, T>,
     id: &str,
     args: Option<&FluentArgs<'_, C>>,
-) -> Result<()> {
+) -> io::Result<()> {
     let mut errors = Vec::new(rt.alloc());
     match bundle.format_value(id, args, &mut errors)? {
         Some(text) => println!(rt; "{}", text.as_str())?,
@@ -29,7 +29,7 @@ pub fn show<
 }
 
 /// Shows errors, each on a line.
-pub fn show_errors(rt: &HostRuntime, errors: &[FluentError]) -> Result<()> {
+pub fn show_errors(rt: &HostRuntime, errors: &[FluentError]) -> io::Result<()> {
     for error in errors {
         println!(rt; "{error}")?;
     }

@@ -1,29 +1,34 @@
 //! A text in a program.
-use anyhow::{Context, Result, bail};
 use fluent_bundle::{
     EnglishPlurals, FluentArgs, FluentBundle, FluentResource, FluentValue, NoCustom, NoFormatter,
     NoFunction, TryNewFault,
 };
+use std::alloc::AllocError;
 use std::borrow::CowStr;
+use std::io;
+use std::io::ErrorKind;
 
 /// Reads a source of one message.
-pub fn show_welcome(rt: &HostRuntime) -> Result<()> {
+pub fn show_welcome(rt: &HostRuntime) -> io::Result<()> {
     match FluentResource::try_new(rt.alloc(), "intro = Welcome, { $name }.") {
         Ok(resource) => welcome(rt, &resource, "John"),
-        Err(TryNewFault::Parser(_, _)) => bail!("not all of it can be read"),
-        Err(TryNewFault::Memory) => bail!("out of memory"),
+        Err(TryNewFault::Parser(_, _)) => Err(ErrorKind::InvalidData.into()),
+        Err(TryNewFault::Memory) => Err(AllocError.into()),
     }
 }
 
 /// Welcomes somebody by the message `intro`.
-fn welcome(rt: &HostRuntime, resource: &FluentResource<'_>, name: &str) -> Result<()> {
+fn welcome(rt: &HostRuntime, resource: &FluentResource<'_>, name: &str) -> io::Result<()> {
     let mut bundle: FluentBundle<EnglishPlurals, NoCustom, NoFunction, NoFormatter> =
         FluentBundle::new_default(rt.alloc())?;
-    bundle.add_resource(resource).ok().context("not added")?;
+    if bundle.add_resource(resource).is_err() {
+        return Err(io::Error::other("not added"));
+    }
     let mut args = FluentArgs::new(rt.alloc());
     args.set(CowStr::Borrowed("name"), FluentValue::from(name))?;
     let mut errors = Vec::new(rt.alloc());
-    let text = bundle.format_value("intro", Some(&args), &mut errors)?;
-    println!(rt; "{}", text.context("no value")?.as_str())?;
+    if let Some(text) = bundle.format_value("intro", Some(&args), &mut errors)? {
+        println!(rt; "{}", text.as_str())?;
+    }
     Ok(())
 }

@@ -3,7 +3,7 @@ use Rattle.std.specs.Prelude.{ℕ, Bool, List, Option}
 use Rattle.std.specs.Borrow.{Bor}
 use Rattle.fluent_bundle.specs.Calls.{IsSetting}
 use Rattle.fluent_bundle.specs.declared.calls.Call.TheVariants.{AddResource, AddResourceOverriding, AddFunction, AddBuiltins, SetUseIsolating, SetTransform, SetFormatter, SetPlaceableLimit}
-use Rattle.fluent_bundle.specs.declared.resource.FluentResource.{FluentResource}
+use Rattle.fluent_resource.specs.declared.resource.FluentResource.{FluentResource}
 
 pub record Memory (F G X : Type 0) : Type 0 where
   pub isolating : (on : Bool) → IsSetting {F = F} {G = G} {X = X} (SetUseIsolating on)

@@ -5,7 +5,8 @@ use Rattle.fluent_ast.specs.Tree.{Text}
 use Rattle.fluent_semantics.specs.Value.{Value}
 use Rattle.fluent_semantics.specs.Bundle as m
 use Rattle.fluent_semantics.specs.Bundle.{Bundle, Function, after_all}
-use Rattle.fluent_bundle.specs.BundleView.{entries_of, formatter_in, transform_in, KeepsLanguages}
+use Rattle.fluent_bundle.specs.BundleView.{formatter_in, transform_in, KeepsLanguages}
+use Rattle.fluent_resource.specs.ResourceView.{entries_of}
 use Rattle.fluent_bundle.specs.declared.bundle.FluentBundle.{FluentBundle}
 use Rattle.fluent_bundle.specs.declared.calls.Call.{Call}
 use Rattle.fluent_bundle.specs.declared.calls.Call.TheVariants as call

@@ -5,15 +5,16 @@ ghost use Rattle.std.specs.Prelude.{◌≡◌, ◌≤◌, ◌↔◌, is_some, ma
 ghost use Rattle.std.specs.Option.{option_map};
 ghost use Rattle.fluent_intl.specs.Plurals.{english};
 ghost use Rattle.fluent_semantics.specs.Bundle.{add_builtins, add_function, add_resource, add_resource_overriding, after, answered, empty_bundle, set_formatter, set_placeable_limit, set_transform, set_use_isolating};
-ghost use Rattle.fluent_bundle.specs.BundleView.{custom_by, entries_in, entries_of, formatter_in, intls_in, message_at, message_entry_at, shown_by, transform_in, with_function, AnswersCall, AreUndetermined, KeepsSettings, KeepsLanguages};
+ghost use Rattle.fluent_bundle.specs.BundleView.{custom_by, entries_in, formatter_in, intls_in, message_at, message_entry_at, shown_by, transform_in, with_function, AnswersCall, AreUndetermined, KeepsSettings, KeepsLanguages};
+ghost use Rattle.fluent_resource.specs.ResourceView.{entries_of};
 ghost use Rattle.fluent_bundle_entries.specs.MessageView.{entry_seen, message_view};
 ghost use Rattle.fluent_bundle_entries.specs.ErrorView.{error_view};
 ghost use Rattle.fluent_bundle.specs.Inside.AddAnswers.{answer_of};
 
-use crate::resource::FluentResource;
 use fluent_bundle_entries::{Entry, FluentError, FluentMessage, FunctionRef, GetEntry, Ids};
 use fluent_intl::{EnglishPlurals, LanguageIdentifier, MemoizerKind};
 use fluent_resolver::Means;
+use fluent_resource::FluentResource;
 use fluent_syntax::ast;
 use fluent_values::types::FluentType;
 use fluent_values::{Context, FluentFormatter, FluentFunction, Transform};

@@ -6,9 +6,9 @@ ghost use Rattle.fluent_bundle.specs.BundleView.{intls_in, KeepsSettings};
 ghost use Rattle.fluent_bundle.specs.Calls.{asks, BegunBy, Makes, IsSetting};
 
 use crate::bundle::{AddFault, FluentBundle};
-use crate::resource::FluentResource;
 use fluent_intl::MemoizerKind;
 use fluent_resolver::Means;
+use fluent_resource::FluentResource;
 use fluent_values::types::FluentType;
 use fluent_values::{Context, FluentFormatter, FluentFunction, Transform};
 use std::alloc::AllocError;

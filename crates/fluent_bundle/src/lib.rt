@@ -10,7 +10,6 @@ pub mod laws;
 mod means;
 mod messages;
 pub mod resolver;
-mod resource;
 
 pub use bundle::{AddFault, FluentBundle};
 pub use calls::Call;
@@ -22,6 +21,7 @@ pub use fluent_intl::{
     EnglishPlurals, LanguageIdentifier, MemoizerKind, NotANumber, OutOfRange, PluralCategory,
     PluralOperands, PluralRuleType,
 };
+pub use fluent_resource::{Entries, FluentResource, TryNewFault};
 pub use fluent_syntax::{Counting, ParserError, WriteFault, ast};
 pub use fluent_values::{
     AnswerRule, Answering, ArgsIntoIter, ArgsIter, FluentArgs, FluentFormatter, FluentFunction,
@@ -30,4 +30,3 @@ pub use fluent_values::{
 };
 pub use messages::{FormattedAttribute, FormattedMessage};
 pub use resolver::{Context, Means, ResolverError, Scope, category_word};
-pub use resource::{Entries, FluentResource, TryNewFault};

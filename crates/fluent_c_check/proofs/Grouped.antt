@@ -1,10 +1,10 @@
 -- Sources that are looked at together.
 use Rattle.std.proofs.Common.{◌≡◌, ◌∙◌, ℕ, List, ◌++◌, length, ap}
-use Rattle.fluent_check.specs.Files.{Read}
-use Rattle.fluent_check.specs.Groups.{Group, read_group}
-use Rattle.fluent_check.specs.ReadFiles.{ReadFile, files_of, files_read}
-use Rattle.fluent_check.specs.Reading.{AreRead}
-use Rattle.fluent_check.specs.declared.source.Sources.{Sources}
+use Rattle.fluent_sources.specs.Files.{Read}
+use Rattle.fluent_sources.specs.Groups.{Group, read_group}
+use Rattle.fluent_sources.specs.ReadFiles.{ReadFile, files_of, files_read}
+use Rattle.fluent_sources.specs.Reading.{AreRead}
+use Rattle.fluent_sources.specs.declared.source.Sources.{Sources}
 use Rattle.fluent_c_check.specs.Checks.{Lists, group_of, reads_of}
 
 abbrev AreOfTexts : Type 0

@@ -5,7 +5,7 @@ use Rattle.std.specs.Borrow.{Bor}
 use Rattle.fluent_ast.specs.Tree.{Text}
 use Rattle.fluent_patterns.specs.Found.{found_view}
 use Rattle.fluent_patterns.specs.declared.finding.Finding.{Finding}
-use Rattle.fluent_check.specs.Files.{Read}
+use Rattle.fluent_sources.specs.Files.{Read}
 use Rattle.fluent_check.specs.declared.checking.Found.{Found}
 use Rattle.fluent_cli_report.specs.Json.{json_report}
 use Rattle.fluent_cli_report.specs.Report.{report, text_report}

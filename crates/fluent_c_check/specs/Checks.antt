@@ -10,12 +10,12 @@ use Rattle.fluent_answers.specs.declared.fault.Fault.{Fault}
 use Rattle.fluent_answers.specs.declared.fault.Fault.TheVariants as read_fault
 use Rattle.fluent_patterns.specs.Found.{found_in}
 use Rattle.fluent_check.specs.Faultless.{AreFaultless, tag_of}
-use Rattle.fluent_check.specs.Files.{Read}
-use Rattle.fluent_check.specs.Groups.{Group}
+use Rattle.fluent_sources.specs.Files.{Read}
+use Rattle.fluent_sources.specs.Groups.{Group}
 use Rattle.fluent_check.specs.Looks.{IsFound}
-use Rattle.fluent_check.specs.ReadFiles.{files_of}
+use Rattle.fluent_sources.specs.ReadFiles.{files_of}
 use Rattle.fluent_check.specs.declared.checking.Found.{Found}
-use Rattle.fluent_check.specs.declared.checking.Grouping.TheVariants.{Together}
+use Rattle.fluent_sources.specs.declared.groups.Grouping.TheVariants.{Together}
 use Rattle.fluent_check.specs.declared.checking.Settings.{Settings}
 use Rattle.fluent_cli_report.specs.Json.{json_report}
 use Rattle.fluent_cli_report.specs.Rows.{Row, errors_in, line_text, rows_of, warnings_in}

@@ -1,15 +1,15 @@
 //! What is found in sources that are handed over.
 ghost use Rattle.std.specs.Prelude.{◌≡◌, IfOk, map};
 ghost use Rattle.fluent_answers.specs.ArgumentView.{argument_view};
-ghost use Rattle.fluent_check.specs.Reading.{AreRead, read_view};
+ghost use Rattle.fluent_sources.specs.Reading.{AreRead, read_view};
 ghost use Rattle.fluent_places.specs.Asked.{texts};
 ghost use Rattle.fluent_c_check.specs.Checks.{names_of, reads_of};
 ghost use Rattle.fluent_c_check.specs.Inside.Handed.{AreReadFrom, FindsIn, IsLanguage, texts_in};
 
 use crate::handed::Handed;
 use fluent_answers::Argument;
-use fluent_check::laws::files_are_of_texts;
 use fluent_check::{Found, Grouping, Settings, Source, Sources, findings};
+use fluent_sources::laws::files_are_of_texts;
 use std::alloc::{AllocError, Global};
 
 /// Sources that are read, as they are handed over.

@@ -5,7 +5,7 @@ use Rattle.fluent_plural_rules.specs.RuleTexts.{category_of}
 use Rattle.fluent_semantics.specs.Bundle.{Bundle, add_resource, add_resource_overriding, after}
 use Rattle.fluent_c_handles.specs.Answers.{OpenedByTag}
 use Rattle.fluent_c_handles.specs.Calls.Opening.{OpenedByRules}
-use Rattle.fluent_bundle.specs.BundleView.{entries_of}
+use Rattle.fluent_resource.specs.ResourceView.{entries_of}
 use Rattle.fluent_c_handles.specs.declared.message_ids.Added.{Added}
 use Rattle.fluent_c_handles.specs.Inside.Resources.{AllFrom, given}
 use Rattle.fluent_c_handles.specs.Facts.Kept.{all_from_none, all_from_override, all_from_push}

@@ -1,6 +1,7 @@
 //! Resources that are added to a bundle.
 ghost use Rattle.std.specs.Prelude.{◌≡◌, ◌≢◌, [], OnOk, OnErr};
-ghost use Rattle.fluent_bundle.specs.BundleView.{KeepsSettings, entries_of};
+ghost use Rattle.fluent_bundle.specs.BundleView.{KeepsSettings};
+ghost use Rattle.fluent_resource.specs.ResourceView.{entries_of};
 ghost use Rattle.fluent_c_handles.specs.Answers.{bundle_view};
 ghost use Rattle.fluent_c_handles.specs.Inside.Resources.{with_all, with_free};
 

@@ -1,6 +1,6 @@
 //! The ids of the messages of a bundle, a line each.
 ghost use Rattle.std.specs.Prelude.{◌≡◌, IfOk, OnOk, string_bytes};
-ghost use Rattle.fluent_bundle.specs.BundleView.{entries_of};
+ghost use Rattle.fluent_resource.specs.ResourceView.{entries_of};
 ghost use Rattle.fluent_c_handles.specs.Answers.{bundle_view, stock_content, unanswered};
 ghost use Rattle.fluent_c_handles.specs.Inside.Gathered.{PutsId, PutsIds, texts_of};
 ghost use Rattle.fluent_c_handles.specs.Inside.Resources.{ComeFrom};

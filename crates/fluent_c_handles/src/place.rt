@@ -8,7 +8,7 @@ use crate::opening::Asking;
 use crate::stock::Stock;
 use fluent_bundle::ast::Identifier;
 use fluent_bundle::{FluentMessage, GetEntry};
-use fluent_lint::Place;
+use fluent_places::Place;
 
 /// The place of a message's value, or of its first attribute of a name that is not empty, where there is one. Takes no memory.
 pub(crate) fn place_of<'r, 's: 'r>(stock: &Stock<'r, 's>, id: &str, name: &str) -> Option<Place<'s>>

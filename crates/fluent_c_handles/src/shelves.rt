@@ -1,7 +1,7 @@
 //! Resources and the sources that they were read from, kept for a bundle.
 ghost use Rattle.std.specs.Prelude.{◌≡◌, IfSome};
 ghost use Rattle.self_borrow.specs.Loans.{AreFor};
-ghost use Rattle.fluent_bundle.specs.BundleView.{IsReadWith};
+ghost use Rattle.fluent_resource.specs.ResourceView.{IsReadWith};
 
 use fluent_bundle::{FluentResource, ParserError};
 use self_borrow::{Lifetime, Loan, Shelf};

@@ -2,7 +2,7 @@
 ghost use Rattle.std.specs.Prelude.{◌≡◌, ◌≢◌, [], IfOk, IfErr, OnErr, Err};
 ghost use Rattle.std.specs.Str.{IsUtf8};
 ghost use Rattle.fluent_syntax.specs.Chunks.{entries};
-ghost use Rattle.fluent_bundle.specs.BundleView.{entries_of};
+ghost use Rattle.fluent_resource.specs.ResourceView.{entries_of};
 ghost use Rattle.fluent_c_handles.specs.Calls.Formatting.{FormatsSource, GivesOf, RefusesOf};
 
 use crate::adding::add_free;

@@ -3,7 +3,8 @@ ghost use Rattle.std.specs.Prelude.{◌≡◌, IfOk, IfErr, OnOk, OnErr, None, [
 ghost use Rattle.std.specs.Str.{IsUtf8};
 ghost use Rattle.fluent_syntax.specs.Chunks.{entries, junk_ranges};
 ghost use Rattle.fluent_syntax.specs.Parsed.{error_range};
-ghost use Rattle.fluent_bundle.specs.BundleView.{entries_of, formatter_in, source_in, transform_in};
+ghost use Rattle.fluent_bundle.specs.BundleView.{formatter_in, transform_in};
+ghost use Rattle.fluent_resource.specs.ResourceView.{entries_of, source_in};
 ghost use Rattle.fluent_c_handles.specs.Inside.Resources.{AreDeclared, ComeFrom};
 ghost use Rattle.self_borrow.specs.Loans.{AreFor};
 
@@ -47,7 +48,7 @@ impl<'r, 's: 'r> Stock<'r, 's> {
     ghost use Rattle.std.specs.Prelude.{true, false};
     ghost use Rattle.fluent_c_handles.specs.Calls.Adding.{NotAdded, added_to, overridden_by};
     ghost use Rattle.fluent_c_handles.specs.Calls.Opening.{NotOpenedByRules, OpenedByRules};
-    ghost use Rattle.fluent_bundle.specs.BundleView.{IsReadWith};
+    ghost use Rattle.fluent_resource.specs.ResourceView.{IsReadWith};
 
     /// A bundle by the tag of its language, without sources.
     ///

@@ -4,7 +4,7 @@ ghost use Rattle.fluent_ast.specs.View.{entry_view};
 ghost use Rattle.fluent_syntax.specs.Chunks as chunks;
 ghost use Rattle.fluent_syntax.specs.Chunks.{junk_ranges};
 ghost use Rattle.fluent_syntax.specs.Parsed.{error_range};
-ghost use Rattle.fluent_bundle.specs.BundleView.{entries_of, source_in};
+ghost use Rattle.fluent_resource.specs.ResourceView.{entries_of, source_in};
 ghost use Rattle.fluent_c_handles.specs.Answers.{bundle_view};
 ghost use Rattle.fluent_c_handles.specs.Calls.Adding.{told_overriding_of};
 ghost use Rattle.fluent_c_handles.specs.Inside.Telling.{IsReport, AddsLeft, AddsLeftBy, AreUnreadable, HaveStarts, Tells, left_at};

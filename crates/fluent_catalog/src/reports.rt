@@ -1,6 +1,7 @@
 //! What is wrong with the sources of several languages.
 ghost use Rattle.std.specs.Prelude.{IfOk, OnOk, OnErr};
-ghost use Rattle.fluent_bundle.specs.BundleView.{IsRead, KeepsSettings, entries_of};
+ghost use Rattle.fluent_bundle.specs.BundleView.{KeepsSettings};
+ghost use Rattle.fluent_resource.specs.ResourceView.{IsRead, entries_of};
 ghost use Rattle.fluent_catalog.specs.Reports.{AddsSource, MeansTheSame, TellsLeft, TellsNothing, TellsUnreadable};
 
 use fluent_bundle::{

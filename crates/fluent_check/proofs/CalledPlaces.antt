@@ -3,8 +3,8 @@ use Rattle.std.proofs.Common.{◌≡◌, ◌∙◌, ℕ, suc, ◌&&◌, not, Boo
 use Rattle.std.proofs.lemmas.List.{append_assoc, map-append}
 use Rattle.fluent_ast.specs.Tree.{Text, Entry}
 use Rattle.fluent_semantics.specs.Bundle.{Bundle}
-use Rattle.fluent_bundle.specs.BundleView.{entries_of, source_in}
-use Rattle.fluent_bundle.specs.declared.resource.FluentResource.{FluentResource}
+use Rattle.fluent_resource.specs.ResourceView.{entries_of, source_in}
+use Rattle.fluent_resource.specs.declared.resource.FluentResource.{FluentResource}
 use Rattle.fluent_places.specs.Clean as entries
 use Rattle.fluent_places.specs.Clean.{Place, Names, names_of}
 use Rattle.fluent_patterns.specs.Marks.{marks}
@@ -18,9 +18,9 @@ use Rattle.fluent_check.specs.Linted as linted
 use Rattle.fluent_check.specs.Linted.{NoneFails}
 use Rattle.fluent_check.specs.Patterns.{called_at, called_in}
 use Rattle.fluent_check.specs.Places.{first_places, place_of, places_of, stands}
-use Rattle.fluent_check.specs.ReadFiles.{ReadFile, entries_in, file_with, files_with}
-use Rattle.fluent_check.specs.Sites.{Site, offset_or, own_len, sites_at, sites_from, sites_of, start_of}
-use Rattle.fluent_check.specs.Standing.{Standing, standings_in, standings_of}
+use Rattle.fluent_sources.specs.ReadFiles.{ReadFile, entries_in, file_with, files_with}
+use Rattle.fluent_sources.specs.Sites.{Site, offset_or, own_len, sites_at, sites_from, sites_of, start_of}
+use Rattle.fluent_sources.specs.Standing.{Standing, standings_in, standings_of}
 use Rattle.fluent_check.proofs.Added.{standings_both}
 
 -- ---- by places

@@ -16,13 +16,13 @@ use Rattle.fluent_patterns.specs.Found.{Found, found_in}
 use Rattle.fluent_patterns.specs.declared.finding.Finding.{Finding}
 use Rattle.fluent_check.specs.Bundles.{bundle_view}
 use Rattle.fluent_check.specs.Differences.{AreAllDifferences, AreAskedBy, AreDifferencesBy, Edition, IsAskedBy, all_differences, edition_of, edition_view, reference_names, reference_places}
-use Rattle.fluent_check.specs.Groups.{Group}
+use Rattle.fluent_sources.specs.Groups.{Group}
 use Rattle.fluent_check.specs.Inside.Editions.{IsEdition}
 use Rattle.fluent_check.specs.Inside.Looks.{AddsAllDifferences, AddsDifferences}
 use Rattle.fluent_check.specs.Places.{keys_of, place_of}
-use Rattle.fluent_check.specs.ReadFiles.{ReadFile, file_view}
-use Rattle.fluent_check.specs.Standing.{Standing, standings}
-use Rattle.fluent_check.specs.declared.files.Read.{Read}
+use Rattle.fluent_sources.specs.ReadFiles.{ReadFile, file_view}
+use Rattle.fluent_sources.specs.Standing.{Standing, standings}
+use Rattle.fluent_sources.specs.declared.files.Read.{Read}
 use Rattle.fluent_check.specs.declared.places.Places.{Places}
 use Rattle.fluent_check.specs.declared.referred.Edition as code
 

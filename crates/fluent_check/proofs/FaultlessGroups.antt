@@ -3,16 +3,16 @@ use Rattle.std.proofs.Common.{◌≡◌, ◌∙◌, ℕ, suc, List, [], ◌∷�
 use Rattle.std.specs.List.{AllByRecursion}
 use Rattle.std.proofs.lemmas.List.{map-append}
 use Rattle.fluent_ast.specs.Tree.{Text, Entry}
-use Rattle.fluent_bundle.specs.BundleView.{entries_of, source_in}
-use Rattle.fluent_bundle.specs.declared.resource.FluentResource.{FluentResource}
+use Rattle.fluent_resource.specs.ResourceView.{entries_of, source_in}
+use Rattle.fluent_resource.specs.declared.resource.FluentResource.{FluentResource}
 use Rattle.fluent_check.specs.Faultless.{AreFaultless, AreFaultlessBy, IsFaultless}
-use Rattle.fluent_check.specs.Groups.{Group, entries_loaded}
+use Rattle.fluent_sources.specs.Groups.{Group, entries_loaded}
 use Rattle.fluent_check.specs.Inside.Faultless.{IsFaultlessBeside, IsFaultlessBy}
-use Rattle.fluent_check.specs.ReadFiles.{ReadFile, entries_in, file_with, files_read, files_with}
-use Rattle.fluent_check.specs.Reading.{entries_read, junk_read}
-use Rattle.fluent_check.specs.declared.checking.Grouping.{Grouping}
-use Rattle.fluent_check.specs.declared.checking.Grouping.TheVariants.{Together, Each, Pairs}
-use Rattle.fluent_check.specs.declared.source.Sources.{Sources}
+use Rattle.fluent_sources.specs.ReadFiles.{ReadFile, entries_in, file_with, files_read, files_with}
+use Rattle.fluent_sources.specs.Reading.{entries_read, junk_read}
+use Rattle.fluent_sources.specs.declared.groups.Grouping.{Grouping}
+use Rattle.fluent_sources.specs.declared.groups.Grouping.TheVariants.{Together, Each, Pairs}
+use Rattle.fluent_sources.specs.declared.source.Sources.{Sources}
 use Rattle.fluent_check.proofs.CalledPlaces.{HavePlaces, faultless_files, have_both, have_one, have_read}
 
 entries_with : (number : ℕ) (rs : List FluentResource) (ranges : List (List (ℕ × ℕ))) → entries_in (files_with number rs ranges) ≡ map entries_of rs

@@ -12,17 +12,17 @@ use Rattle.fluent_patterns.specs.Terms.{TellsAskedAt}
 use Rattle.fluent_patterns.specs.Found as found
 use Rattle.fluent_patterns.specs.declared.finding.Finding.{Finding}
 use Rattle.fluent_check.specs.Differences.{reference_names}
-use Rattle.fluent_check.specs.Groups.{Group, groups_from, of_file}
+use Rattle.fluent_sources.specs.Groups.{Group, groups_from, of_file}
 use Rattle.fluent_check.specs.Inside.Looks.{AddsDifferences, AddsLinted, AddsLooks, AddsPatterns}
 use Rattle.fluent_check.specs.Linted.{is_none}
 use Rattle.fluent_check.specs.Looks.{IsLook, Look, bundle_in, categories_if, found_ids, found_in_look, found_in_looks, named_in, none_listed, places_in, standings_loaded}
 use Rattle.fluent_check.specs.Patterns.{found_in_patterns, found_selects}
 use Rattle.fluent_check.specs.Places.{place_of}
-use Rattle.fluent_check.specs.ReadFiles.{ReadFile}
-use Rattle.fluent_check.specs.Standing.{Standing}
+use Rattle.fluent_sources.specs.ReadFiles.{ReadFile}
+use Rattle.fluent_sources.specs.Standing.{Standing}
 use Rattle.fluent_check.specs.Whole.{found_whole, found_wholes, whole_if, whole_view, wholes}
 use Rattle.fluent_check.specs.declared.whole.Whole.{Whole}
-use Rattle.fluent_check.specs.declared.checking.Grouping.{Grouping}
+use Rattle.fluent_sources.specs.declared.groups.Grouping.{Grouping}
 use Rattle.fluent_check.specs.declared.checking.Settings.{Settings}
 use Rattle.fluent_check.proofs.Chained.{two}
 

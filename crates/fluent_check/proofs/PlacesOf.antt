@@ -12,8 +12,8 @@ use Rattle.fluent_places.specs.Clean.{Place, Names, place_same, place_view, view
 use Rattle.fluent_places.specs.declared.place.Place as code_place
 use Rattle.fluent_check.specs.Among.{is_at, same_place}
 use Rattle.fluent_check.specs.Places.{first_at, first_places, place_of, places_of, stands}
-use Rattle.fluent_check.specs.Standing.{Standing, standing_view}
-use Rattle.fluent_check.specs.declared.standing.Standing as code
+use Rattle.fluent_sources.specs.Standing.{Standing, standing_view}
+use Rattle.fluent_sources.specs.declared.standing.Standing as code
 use Rattle.fluent_check.proofs.PlaceTests.{any_place, same_test}
 
 module _ (named : Names Text) (seen : List Place) (s : Standing) (ss : List Standing) where

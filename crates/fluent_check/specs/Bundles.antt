@@ -11,9 +11,11 @@ use Rattle.fluent_values.specs.declared.formatter.NoFormatter.{NoFormatter}
 use Rattle.fluent_values.specs.declared.function.NoFunction.{NoFunction}
 use Rattle.fluent_values.specs.declared.transform.NoTransform.{NoTransform}
 use Rattle.fluent_values.specs.declared.types.custom.NoCustom.{NoCustom}
-use Rattle.fluent_bundle.specs.BundleView.{meant, entries_of}
+use Rattle.fluent_places.specs.Clean.{Names, names_of}
+use Rattle.fluent_bundle.specs.BundleView.{meant}
+use Rattle.fluent_resource.specs.ResourceView.{entries_of}
 use Rattle.fluent_bundle.specs.declared.bundle.FluentBundle.{FluentBundle}
-use Rattle.fluent_bundle.specs.declared.resource.FluentResource.{FluentResource}
+use Rattle.fluent_resource.specs.declared.resource.FluentResource.{FluentResource}
 use Rattle.fluent_check.specs.Languages.{bundle_with}
 
 abbrev pub Code : Type 0
@@ -22,10 +24,6 @@ Code = FluentBundle RuleTexts NoCustom NoFunction NoFormatter NoTransform
 abbrev pub bundle_view : Code → Bundle Text
 bundle_view =
     meant category_of (λ t. []) (λ s t. true) (λ f vs as'. error_value) (λ g v m. None) (λ x t. t)
-
--- the entries of each resource
-abbrev pub entries_of_all : List FluentResource → List (List Entry)
-entries_of_all resources = map entries_of resources
 
 -- the entries of a resource are added
 abbrev pub adding : FluentResource → Bundle Text → Bundle Text
@@ -39,3 +37,7 @@ resource_bundle tag functions beside resource = bundle_with tag functions beside
 abbrev pub AddsBundle : Text → List Text → List (List Entry) → FluentResource → Vec Code Global → Vec Code Global → Type 0
 AddsBundle tag functions beside r old new =
     (rest : List (Bundle Text)) → map bundle_view new.items ++ rest ≡ map bundle_view old.items ++ resource_bundle tag functions beside r ∷ rest
+
+-- what ids name in a bundle of the code
+abbrev pub names_by : Code → Names Text
+names_by bundle = names_of (bundle_view bundle)

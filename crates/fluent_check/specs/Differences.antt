@@ -9,11 +9,11 @@ use Rattle.fluent_patterns.specs.Found.{Flaw, Found}
 use Rattle.fluent_check.specs.Alone.{Side, unreferenced, untranslated}
 use Rattle.fluent_check.specs.Bundles.{bundle_view}
 use Rattle.fluent_check.specs.Compared.{Wording, differences}
-use Rattle.fluent_check.specs.Groups.{Group}
+use Rattle.fluent_sources.specs.Groups.{Group}
 use Rattle.fluent_check.specs.Languages.{all_of}
 use Rattle.fluent_check.specs.Places.{keys_of, place_of, places_of}
-use Rattle.fluent_check.specs.ReadFiles.{ReadFile, entries_in}
-use Rattle.fluent_check.specs.Standing.{Standing, flaws_at, standings, standings_in}
+use Rattle.fluent_sources.specs.ReadFiles.{ReadFile, entries_in}
+use Rattle.fluent_sources.specs.Standing.{Standing, flaws_at, standings, standings_in}
 use Rattle.fluent_check.specs.declared.referred.Edition as code
 
 -- A translation, or its reference: what ids name in it, where its values and attributes stand first and at which places, and the variables for which each place asks.

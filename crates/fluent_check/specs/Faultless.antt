@@ -11,8 +11,8 @@ use Rattle.fluent_check.specs.Languages.{all_of}
 use Rattle.fluent_check.specs.Linted.{NoneFails, places_of}
 use Rattle.fluent_check.specs.Patterns.{called_if}
 use Rattle.fluent_check.specs.Places.{stands}
-use Rattle.fluent_check.specs.declared.checking.Grouping.{Grouping}
-use Rattle.fluent_check.specs.declared.checking.Grouping.TheVariants.{Together, Each, Pairs}
+use Rattle.fluent_sources.specs.declared.groups.Grouping.{Grouping}
+use Rattle.fluent_sources.specs.declared.groups.Grouping.TheVariants.{Together, Each, Pairs}
 
 -- The functions that the patterns at places call, of each place the first time; these places are passed already.
 abbrev pub called_by : Names Text → List Place → List Place → List Text

@@ -6,14 +6,14 @@ use Rattle.fluent_semantics.specs.Bundle.{a_message}
 use Rattle.fluent_places.specs.Clean.{Place, of_message, of_term, Names}
 use Rattle.fluent_patterns.specs.Found.{Problem, whole, taken_id, function_id, repeated_attribute}
 use Rattle.fluent_check.specs.Differences.{Edition, all_here}
-use Rattle.fluent_check.specs.Groups.{Group, groups_of}
+use Rattle.fluent_sources.specs.Groups.{Group, groups_of}
 use Rattle.fluent_check.specs.Places.{first_at, places_of}
-use Rattle.fluent_check.specs.ReadFiles.{ReadFile}
-use Rattle.fluent_check.specs.Repeated.{function_ids, repeated_attributes}
-use Rattle.fluent_check.specs.Standing.{Standing, found_at}
-use Rattle.fluent_check.specs.Taken.{taken}
+use Rattle.fluent_sources.specs.ReadFiles.{ReadFile}
+use Rattle.fluent_sources.specs.Repeated.{function_ids, repeated_attributes}
+use Rattle.fluent_sources.specs.Standing.{Standing, found_at}
+use Rattle.fluent_sources.specs.Taken.{taken}
 use Rattle.fluent_check.specs.Whole.{found_wholes}
-use Rattle.fluent_check.specs.declared.checking.Grouping.TheVariants.{Together, Each, Pairs}
+use Rattle.fluent_sources.specs.declared.groups.Grouping.TheVariants.{Together, Each, Pairs}
 
 -- what stands in the file of a number, at a byte
 abbrev standing : Place → ℕ → ℕ → Standing

@@ -5,8 +5,8 @@ use Rattle.fluent_places.specs.Asked.{AreAskedIn}
 use Rattle.fluent_places.specs.Clean.{Place, Names, names_of, views}
 use Rattle.fluent_check.specs.Languages.{all_of}
 use Rattle.fluent_check.specs.Places.{place_of, places_of}
-use Rattle.fluent_check.specs.ReadFiles.{ReadFile, entries_in}
-use Rattle.fluent_check.specs.Standing.{Standing, standings_in}
+use Rattle.fluent_sources.specs.ReadFiles.{ReadFile, entries_in}
+use Rattle.fluent_sources.specs.Standing.{Standing, standings_in}
 use Rattle.fluent_check.specs.declared.listing.Listing.{Listing}
 
 -- the names of a bundle of all the files

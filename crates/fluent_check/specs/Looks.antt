@@ -14,17 +14,17 @@ use Rattle.fluent_patterns.specs.Terms.{TellsAskedAt}
 use Rattle.fluent_check.specs.Called.{with_functions}
 use Rattle.fluent_check.specs.Differences.{AreDifferences, reference_names}
 use Rattle.fluent_check.specs.Faultless.{tag_of}
-use Rattle.fluent_check.specs.Groups.{Group, all_in, entries_loaded, groups_of, loaded}
+use Rattle.fluent_sources.specs.Groups.{Group, all_in, entries_loaded, groups_of, loaded}
 use Rattle.fluent_check.specs.Languages.{all_of}
 use Rattle.fluent_check.specs.Linted.{AreLinted, is_none}
 use Rattle.fluent_check.specs.Patterns.{Against, called_in, found_in_patterns, found_selects}
 use Rattle.fluent_check.specs.Places.{first_at, place_of, places_of}
-use Rattle.fluent_check.specs.ReadFiles.{ReadFile}
-use Rattle.fluent_check.specs.Repeated.{function_ids, repeated_attributes}
-use Rattle.fluent_check.specs.Standing.{Standing, standings_in}
-use Rattle.fluent_check.specs.Taken.{taken}
+use Rattle.fluent_sources.specs.ReadFiles.{ReadFile}
+use Rattle.fluent_sources.specs.Repeated.{function_ids, repeated_attributes}
+use Rattle.fluent_sources.specs.Standing.{Standing, standings_in}
+use Rattle.fluent_sources.specs.Taken.{taken}
 use Rattle.fluent_check.specs.Tried.{is_shown}
-use Rattle.fluent_check.specs.Unreadable.{unreadable}
+use Rattle.fluent_sources.specs.Unreadable.{unreadable}
 use Rattle.fluent_check.specs.Whole.{found_wholes, whole_problems}
 use Rattle.fluent_check.specs.declared.checking.Found.{Found}
 use Rattle.fluent_check.specs.declared.checking.Settings.{Settings}

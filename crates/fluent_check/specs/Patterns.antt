@@ -13,7 +13,7 @@ use Rattle.fluent_patterns.specs.Terms.{asks_of, term_flaws}
 use Rattle.fluent_check.specs.Bundles.{bundle_view}
 use Rattle.fluent_check.specs.Called.{functions_in}
 use Rattle.fluent_check.specs.Copied.{is_copied, unless_copied}
-use Rattle.fluent_check.specs.Standing.{Standing, flaws_at}
+use Rattle.fluent_sources.specs.Standing.{Standing, flaws_at}
 use Rattle.fluent_check.specs.declared.patterns.Against as code
 
 -- What patterns are held against: what ids name, functions that the application adds, and whether what stands at a place asks for a variable.

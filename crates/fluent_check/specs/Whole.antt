@@ -6,7 +6,7 @@ use Rattle.fluent_places.specs.declared.finding.Finding.{Finding}
 use Rattle.fluent_places.specs.declared.finding.Kind.{Kind}
 use Rattle.fluent_places.specs.declared.finding.Kind.TheVariants as kind
 use Rattle.fluent_patterns.specs.Found.{Found, whole, Problem, problem_view, cycle, too_many_placeables, may_open_too_many, leads_to}
-use Rattle.fluent_check.specs.Standing.{Standing, found_at}
+use Rattle.fluent_sources.specs.Standing.{Standing, found_at}
 use Rattle.fluent_check.specs.declared.whole.Whole.{Whole}
 
 -- a pattern leads to one that isn't clean, or that stands elsewhere

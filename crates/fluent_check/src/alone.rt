@@ -7,8 +7,8 @@ ghost use Rattle.fluent_check.specs.Alone.{has_message, is_alone, is_of_message,
 
 use crate::among::stands;
 use crate::bundle::Bundle;
-use fluent_lint::Place;
 use fluent_patterns::{Flaw, Part, Problem};
+use fluent_places::Place;
 use indexmap::IndexSet;
 use std::alloc::AllocError;
 

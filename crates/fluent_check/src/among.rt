@@ -5,7 +5,7 @@ ghost use Rattle.fluent_places.specs.Asked.{texts};
 ghost use Rattle.fluent_places.specs.Clean.{place_view, views};
 ghost use Rattle.fluent_check.specs.Among.{is_at, is_in};
 
-use fluent_lint::Place;
+use fluent_places::Place;
 use indexmap::IndexSet;
 
 /// Whether a name is among these.

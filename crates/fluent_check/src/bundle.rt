@@ -2,18 +2,19 @@
 ghost use Rattle.std.specs.Prelude.{◌≡◌, IfOk, OnOk, map};
 ghost use Rattle.fluent_places.specs.Asked.{texts};
 ghost use Rattle.fluent_patterns.specs.Languages.{language_rules};
-ghost use Rattle.fluent_check.specs.Bundles.{AddsBundle, adding, bundle_view, entries_of_all, resource_bundle};
-ghost use Rattle.fluent_check.specs.Groups.{entries_loaded, group_view};
+ghost use Rattle.fluent_check.specs.Bundles.{AddsBundle, adding, bundle_view, resource_bundle};
+ghost use Rattle.fluent_sources.specs.Reading.{entries_of_all};
+ghost use Rattle.fluent_sources.specs.Groups.{entries_loaded, group_view};
 ghost use Rattle.fluent_check.specs.Languages.{adding_all, all_of, start_of};
-ghost use Rattle.fluent_check.specs.ReadFiles.{entries_in, file_view};
+ghost use Rattle.fluent_sources.specs.ReadFiles.{entries_in, file_view};
 
 use crate::called::add_functions;
-use crate::files::Read;
-use crate::groups::Group;
 use fluent_bundle::{
     AddFault, FluentBundle, FluentResource, NoCustom, NoFormatter, NoFunction, NoTransform,
 };
 use fluent_plural_rules::{LanguageRules, RuleTexts, cldr_plurals, rules_for};
+use fluent_sources::files::Read;
+use fluent_sources::groups::Group;
 use std::alloc::{AllocError, Global};
 
 /// The rules of a language that has none.

@@ -11,7 +11,7 @@ ghost use Rattle.fluent_check.specs.Called.{AddsNames, functions_in, with_functi
 use crate::bundle::Bundle;
 use fluent_ast::ast::Pattern;
 use fluent_bundle::{AddFault, NoFunction};
-use fluent_lint::{Need, needs};
+use fluent_places::{Need, needs};
 use std::alloc::{AllocError, Global};
 
 /// Adds the function that is needed, if it is one.

@@ -3,53 +3,40 @@
 ghost use Rattle.std.specs.Prelude.{◌≡◌, [], ◌∷◌, IfOk, IsTrue, OnOk, map};
 ghost use Rattle.fluent_places.specs.Clean.{names_of};
 ghost use Rattle.fluent_patterns.specs.CategoryView.{categories_view};
-ghost use Rattle.fluent_patterns.specs.Found.{AddsFound, found_in};
+ghost use Rattle.fluent_patterns.specs.Found.{AddsFound};
 ghost use Rattle.fluent_check.specs.Bundles.{bundle_view};
 ghost use Rattle.fluent_check.specs.Differences.{reference_names};
 ghost use Rattle.fluent_check.specs.Faultless.{AreFaultlessBy, tag_of};
-ghost use Rattle.fluent_check.specs.Faults.{faults_of, ids_in, ids_of};
-ghost use Rattle.fluent_check.specs.Groups.{entries_loaded, group_view, groups_from, groups_of, loaded, read_group};
+ghost use Rattle.fluent_sources.specs.Groups.{entries_loaded, group_view, groups_from, groups_of, loaded, read_group};
 ghost use Rattle.fluent_check.specs.Inside.Faultless.{AreEachFaultless, AreFaultlessFiles, IsFaultlessBy, calling};
 ghost use Rattle.fluent_check.specs.Inside.Looks.{AddsAllDifferences, AddsDifferences, AddsLinted, AddsLooks, AddsPatternsBy};
-ghost use Rattle.fluent_check.specs.Inside.Names.{names_by};
+ghost use Rattle.fluent_check.specs.Bundles.{names_by};
 ghost use Rattle.fluent_check.specs.Inside.Places.{place_found};
 ghost use Rattle.fluent_check.specs.Linted.{NoneFails};
 ghost use Rattle.fluent_check.specs.Looks.{IsFound, categories_if, found_ids};
 ghost use Rattle.fluent_check.specs.Places.{keys_of, place_of};
-ghost use Rattle.fluent_check.specs.ReadFiles.{file_view, files_read};
-ghost use Rattle.fluent_check.specs.Reading.{entries_read};
-ghost use Rattle.fluent_check.specs.Standing.{standing_view, standings};
+ghost use Rattle.fluent_sources.specs.Reading.{entries_read};
+ghost use Rattle.fluent_sources.specs.Standing.{standing_view, standings};
 ghost use Rattle.fluent_check.specs.Whole.{found_whole, found_wholes, whole_view, wholes};
 
 use crate::bundle::{Bundle, bundle_of_group};
 use crate::called::add_functions;
-use crate::files::{Read, add_sources, all_files};
-use crate::groups::Group;
 use crate::linted::lint_all;
 use crate::patterns::{Against, add_patterns, add_selects, called_in};
 use crate::places::{Places, places_of};
 use crate::referred::{Edition, add_referred};
-use crate::repeated::{add_function_ids, add_repeated};
-use crate::source::Sources;
-use crate::standing::{Standing, standings_in};
-use crate::taken::add_taken;
-use crate::unreadable::add_unreadable;
 use crate::whole::Whole;
-use fluent_lint::Place;
 use fluent_patterns::{Categories, Finding, Part, categories_of, no_categories, terms_at};
+use fluent_places::Place;
+use fluent_sources::Grouping;
+use fluent_sources::files::{Read, all_files};
+use fluent_sources::groups::Group;
+use fluent_sources::repeated::{add_function_ids, add_repeated};
+use fluent_sources::source::Sources;
+use fluent_sources::standing::{Standing, standings_in};
+use fluent_sources::taken::add_taken;
+use fluent_sources::unreadable::add_unreadable;
 use std::alloc::{AllocError, Global};
-use std::slice;
-
-/// Which files are looked at together.
-#[derive(Clone, Copy, Debug, PartialEq, Eq)]
-pub enum Grouping {
-    /// All count as one source, and so do their references.
-    Together,
-    /// Each for itself, without references.
-    Each,
-    /// Each for itself, with the reference of its number.
-    Pairs,
-}
 
 /// How files are looked at.
 #[derive(Clone, Copy, Drop)]
@@ -322,48 +309,4 @@ pub fn findings<'s>(
     let all = Group::of_all(&files);
     let is_clean = add_groups(alloc, settings, &categories, &all, &mut findings)?;
     Ok(Found { findings, is_clean })
-}
-
-/// Adds which ids come again in a file, and which is that of the function.
-fn add_ids<'s>(
-    alloc: Global,
-    file: &Read<'_, 's>,
-    findings: &mut Vec<Finding<'s>>,
-) -> Result<(), AllocError>
-    ensures { OnOk result (AddsFound (ids_in (file_view file.now)) findings.old findings.new) }
-{
-    let group = Group::alone(slice::from_ref(file));
-    let standings = standings_in(alloc, &group)?;
-    add_taken(alloc, standings.as_slice(), findings)?;
-    add_function_ids(standings.as_slice(), findings)
-}
-
-/// The same of each file for itself.
-fn add_all_ids<'s>(
-    alloc: Global,
-    files: &[Read<'_, 's>],
-    findings: &mut Vec<Finding<'s>>,
-) -> Result<(), AllocError>
-    ensures { OnOk result (AddsFound (ids_of (map file_view files.now)) findings.old findings.new) }
-{
-    for file in files {
-        add_ids(alloc, file, findings)?;
-    }
-    Ok(())
-}
-
-/// What can't be read in these files, and which ids come again in the same file.
-///
-/// # Errors
-///
-/// An allocation failed.
-pub fn faults<'s>(alloc: Global, sources: &Sources<'s>) -> Result<Vec<Finding<'s>>, AllocError>
-    ensures { IfOk result (λ found. found_in found ≡ faults_of (files_read 0 sources.now)) }
-{
-    let mut findings = Vec::new(alloc);
-    let mut files = Vec::new(alloc);
-    add_sources(alloc, sources, &mut files)?;
-    add_unreadable(alloc, files.as_slice(), &mut findings)?;
-    add_all_ids(alloc, files.as_slice(), &mut findings)?;
-    Ok(findings)
 }

@@ -15,8 +15,8 @@ use crate::rules::{
     FunctionsLeftOut, Rule, TermsLeftOut, Told, UnknownVariables, VariablesLeftOut,
 };
 use fluent_ast::ast::Pattern;
-use fluent_lint::{Need, Place, needs};
 use fluent_patterns::{Flaw, Wanted, shown_in};
+use fluent_places::{Need, Place, needs};
 use indexmap::IndexSet;
 use std::alloc::{AllocError, Global};
 

@@ -2,19 +2,18 @@
 
 ghost use Rattle.std.specs.Prelude.{◌≡◌, [], IfOk, IsTrue, OnOk, map};
 ghost use Rattle.fluent_places.specs.Clean.{places_in, views};
-ghost use Rattle.fluent_bundle.specs.BundleView.{entries_of};
+ghost use Rattle.fluent_resource.specs.ResourceView.{entries_of};
 ghost use Rattle.fluent_check.specs.Bundles.{bundle_view};
-ghost use Rattle.fluent_check.specs.Groups.{entries_loaded, group_view};
+ghost use Rattle.fluent_sources.specs.Groups.{entries_loaded, group_view};
 ghost use Rattle.fluent_check.specs.Linted.{AddsPlaces, IsLinted, NoneFails, is_none, places_of};
-ghost use Rattle.fluent_check.specs.ReadFiles.{entries_in, file_view};
+ghost use Rattle.fluent_sources.specs.ReadFiles.{entries_in, file_view};
 
 use crate::bundle::Bundle;
-use crate::files::Read;
-use crate::groups::Group;
 use crate::whole::{Whole, whole_problems};
 use fluent_bundle::FluentResource;
-use fluent_lint::{Finding, Place, lint_places, places_of};
-use fluent_places::laws;
+use fluent_places::{Finding, Place, laws, lint_places, places_of};
+use fluent_sources::files::Read;
+use fluent_sources::groups::Group;
 use std::alloc::{AllocError, Global};
 
 /// What the linter finds in files.

@@ -3,20 +3,20 @@
 ghost use Rattle.std.specs.Prelude.{◌≡◌, IfOk, codes, map};
 ghost use Rattle.fluent_places.specs.Clean.{names_of, views};
 ghost use Rattle.fluent_check.specs.Bundles.{bundle_view};
-ghost use Rattle.fluent_check.specs.Groups.{entries_loaded, group_view, loaded};
+ghost use Rattle.fluent_sources.specs.Groups.{entries_loaded, group_view, loaded};
 ghost use Rattle.fluent_check.specs.Languages.{all_of};
 ghost use Rattle.fluent_check.specs.Listed.{IsListing, ListsAll};
 ghost use Rattle.fluent_check.specs.Places.{keys_of};
-ghost use Rattle.fluent_check.specs.Standing.{standing_view, standings_in};
-ghost use Rattle.fluent_check.specs.ReadFiles.{files_read};
+ghost use Rattle.fluent_sources.specs.Standing.{standing_view, standings_in};
+ghost use Rattle.fluent_sources.specs.ReadFiles.{files_read};
 
 use crate::bundle::{Bundle, bundle_of_group};
-use crate::files::add_sources;
-use crate::groups::Group;
 use crate::places::{Places, places_of};
-use crate::source::Sources;
-use crate::standing::{Standing, standings_in};
-use fluent_lint::{Asked, Place, variables_at};
+use fluent_places::{Asked, Place, variables_at};
+use fluent_sources::files::add_sources;
+use fluent_sources::groups::Group;
+use fluent_sources::source::Sources;
+use fluent_sources::standing::{Standing, standings_in};
 use std::alloc::{AllocError, Global};
 
 /// Values and attributes in order, and the variables that each asks for.

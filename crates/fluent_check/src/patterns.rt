@@ -12,20 +12,20 @@ ghost use Rattle.fluent_patterns.specs.Terms.{AreOf};
 ghost use Rattle.fluent_check.specs.Bundles.{bundle_view};
 ghost use Rattle.fluent_check.specs.Called.{AddsNames};
 ghost use Rattle.fluent_check.specs.Copied.{is_same, unless_copied};
-ghost use Rattle.fluent_check.specs.Inside.Names.{names_by};
+ghost use Rattle.fluent_check.specs.Bundles.{names_by};
 ghost use Rattle.fluent_check.specs.Patterns.{against_view, called_at, called_in, flaws_of, found_in_pattern, found_in_patterns, found_selects, found_selects_at};
-ghost use Rattle.fluent_check.specs.Standing.{standing_view, standings};
+ghost use Rattle.fluent_sources.specs.Standing.{standing_view, standings};
 
 use crate::bundle::Bundle;
 use crate::called::add_called;
 use crate::places::Places;
-use crate::standing::{Standing, add_flaws};
 use fluent_ast::ast::Pattern;
-use fluent_lint::{Place, pattern_at};
 use fluent_patterns::{
     Categories, Finding, Flaw, Terms, add_missing, add_no_numbers, add_select_flaws,
     add_term_flaws, no_categories,
 };
+use fluent_places::{Place, pattern_at};
+use fluent_sources::standing::{Standing, add_flaws};
 use std::alloc::{AllocError, Global};
 
 /// What patterns are held against.

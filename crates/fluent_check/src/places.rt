@@ -6,11 +6,11 @@ ghost use Rattle.fluent_places.specs.Clean.{names_of, place_view};
 ghost use Rattle.fluent_check.specs.Bundles.{bundle_view};
 ghost use Rattle.fluent_check.specs.Inside.Places.{AddsPlace, place_found};
 ghost use Rattle.fluent_check.specs.Places.{ArePlaces, stands};
-ghost use Rattle.fluent_check.specs.Standing.{standing_view};
+ghost use Rattle.fluent_sources.specs.Standing.{standing_view};
 
 use crate::bundle::Bundle;
-use crate::standing::Standing;
-use fluent_lint::{Place, pattern_at};
+use fluent_places::{Place, pattern_at};
+use fluent_sources::standing::Standing;
 use indexmap::IndexSet;
 use std::alloc::{AllocError, Global};
 

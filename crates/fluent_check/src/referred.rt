@@ -8,15 +8,15 @@ ghost use Rattle.fluent_check.specs.Alone.{side_view};
 ghost use Rattle.fluent_check.specs.Compared.{wording_view};
 ghost use Rattle.fluent_check.specs.Differences.{all_differences, all_here, all_there, compared, edition_view, is_of_message, side_of, told_here, told_there, wording_at};
 ghost use Rattle.fluent_check.specs.Inside.Editions.{IsEdition};
-ghost use Rattle.fluent_check.specs.Standing.{standing_view, standings};
+ghost use Rattle.fluent_sources.specs.Standing.{standing_view, standings};
 
 use crate::alone::{Side, add_unreferenced, add_untranslated};
 use crate::bundle::Bundle;
 use crate::compared::{Wording, add_differences};
 use crate::places::Places;
-use crate::standing::{Standing, add_flaws};
-use fluent_lint::{Asked, Place, pattern_at, variables_at};
 use fluent_patterns::{Finding, Flaw};
+use fluent_places::{Asked, Place, pattern_at, variables_at};
+use fluent_sources::standing::{Standing, add_flaws};
 use std::alloc::{AllocError, Global};
 
 /// A translation, or its reference: its bundle, where its values and attributes stand, and what each asks for.

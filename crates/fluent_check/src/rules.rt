@@ -9,8 +9,8 @@ ghost use Rattle.fluent_patterns.specs.Found.{flaw_view, problem_view, whole};
 ghost use Rattle.fluent_check.specs.Compared.{Rule, of_functions_left_out, of_terms_left_out, of_unknown_variables, of_variables_left_out, told_unless, told_view};
 
 use crate::among::{has, stands};
-use fluent_lint::{Need, Place};
 use fluent_patterns::{Flaw, Part, Problem};
+use fluent_places::{Need, Place};
 use indexmap::IndexSet;
 
 /// What is told of a name.

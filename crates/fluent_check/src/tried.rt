@@ -14,8 +14,8 @@ ghost use Rattle.fluent_check.specs.Tried.{given, is_shown, is_too_many, reaches
 use crate::bundle::Bundle;
 use fluent_ast::ast::{Pattern, VariantKey};
 use fluent_bundle::{Counting, FluentArgs, FluentError, FluentValue, NoCustom, ResolverError};
-use fluent_lint::{Place, pattern_at};
 use fluent_patterns::{Choice, choices_of, tried};
+use fluent_places::{Place, pattern_at};
 use std::alloc::{AllocError, Global};
 use std::borrow::CowStr;
 use std::io::sink;

@@ -10,8 +10,8 @@ ghost use Rattle.fluent_check.specs.Whole.{all_lead_on, large_problem, leads_on,
 
 use crate::bundle::Bundle;
 use crate::tried::is_shown;
-use fluent_lint::{Finding as Linted, Kind, Place};
 use fluent_patterns::Problem;
+use fluent_places::{Finding as Linted, Kind, Place};
 use std::alloc::{AllocError, Global};
 
 /// A problem of a whole value or attribute.

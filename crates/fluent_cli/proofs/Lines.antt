@@ -5,7 +5,7 @@ use Rattle.fluent_ast.specs.Tree.{Text}
 use Rattle.fluent_places.specs.Asked.{AreAskedIn, IsAskedIn, texts}
 use Rattle.fluent_places.specs.Clean.{Place, Names}
 use Rattle.fluent_places.specs.declared.asked.Asked.{Asked}
-use Rattle.fluent_check.specs.Wording.{place_text}
+use Rattle.fluent_sources.specs.Wording.{place_text}
 use Rattle.fluent_cli.specs.Inside.Listing.{line_by, variables_text}
 use Rattle.fluent_cli.specs.Listed.{AreLines, IsLine}
 

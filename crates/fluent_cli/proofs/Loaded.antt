@@ -1,8 +1,9 @@
 -- A bundle of each resource, by its entries.
 use Rattle.std.proofs.Common.{◌≡◌, List, [], ◌∷◌, map, refl, ap}
 use Rattle.fluent_ast.specs.Tree.{Text, Entry}
-use Rattle.fluent_bundle.specs.declared.resource.FluentResource.{FluentResource}
-use Rattle.fluent_check.specs.Bundles.{entries_of_all, resource_bundle}
+use Rattle.fluent_resource.specs.declared.resource.FluentResource.{FluentResource}
+use Rattle.fluent_check.specs.Bundles.{resource_bundle}
+use Rattle.fluent_sources.specs.Reading.{entries_of_all}
 use Rattle.fluent_check.specs.Languages.{bundle_with}
 
 pub each_loaded : (tag : Text) (functions : List Text) (beside : List (List Entry)) (rs : List FluentResource)

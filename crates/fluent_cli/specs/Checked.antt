@@ -4,12 +4,12 @@ use Rattle.std.specs.Borrow.{Bor}
 use Rattle.fluent_ast.specs.Tree.{Text}
 use Rattle.fluent_patterns.specs.Found.{found_in}
 use Rattle.fluent_check.specs.Faultless.{AreFaultlessBy, tag_of}
-use Rattle.fluent_check.specs.Groups.{read_group}
+use Rattle.fluent_sources.specs.Groups.{read_group}
 use Rattle.fluent_check.specs.Looks.{IsFound}
-use Rattle.fluent_check.specs.Reading.{entries_read}
+use Rattle.fluent_sources.specs.Reading.{entries_read}
 use Rattle.fluent_check.specs.declared.checking.Found.{Found}
-use Rattle.fluent_check.specs.declared.checking.Grouping.{Grouping}
-use Rattle.fluent_check.specs.declared.checking.Grouping.TheVariants.{Together, Each, Pairs}
+use Rattle.fluent_sources.specs.declared.groups.Grouping.{Grouping}
+use Rattle.fluent_sources.specs.declared.groups.Grouping.TheVariants.{Together, Each, Pairs}
 use Rattle.fluent_check.specs.declared.checking.Settings.{Settings}
 use Rattle.fluent_cli_report.specs.Reported.{Manner, folds, whole_report}
 use Rattle.fluent_cli_report.specs.Rows.{Row, errors_in, rows_of, rows_told, warnings_in}

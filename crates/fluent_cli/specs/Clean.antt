@@ -3,7 +3,7 @@ use Rattle.std.specs.Prelude.{◌≡◌, List, [], map, is_some}
 use Rattle.fluent_ast.specs.Tree.{Entry}
 use Rattle.fluent_syntax.specs.Chunks.{entries}
 use Rattle.fluent_check.specs.Faultless.{AreFaultlessBy, tag_of}
-use Rattle.fluent_check.specs.Files.{Read}
+use Rattle.fluent_sources.specs.Files.{Read}
 use Rattle.fluent_cli_words.specs.declared.request.CheckRequest.{CheckRequest}
 use Rattle.fluent_cli_words.specs.declared.request.Request.TheVariants as request
 use Rattle.fluent_cli.specs.Checked.{grouping_of}

@@ -9,7 +9,7 @@ use Rattle.std.specs.Option.{option_to_list}
 use Rattle.std.specs.Str.{is_utf8}
 use Rattle.std.specs.Str.Lossy.{utf8_valid_len}
 use Rattle.fluent_ast.specs.Tree.{Text}
-use Rattle.fluent_check.specs.Files.{Read}
+use Rattle.fluent_sources.specs.Files.{Read}
 use Rattle.fluent_cli_report.specs.Unread.{Unread}
 use Rattle.fluent_cli.specs.declared.reading.File.{File}
 

@@ -1,7 +1,7 @@
 -- What is read for a request.
 use Rattle.std.specs.Prelude.{Bool, true, false, List, ◌++◌, map}
-use Rattle.fluent_check.specs.Files.{Read}
-use Rattle.fluent_check.specs.Reading.{AreRead, texts_read}
+use Rattle.fluent_sources.specs.Files.{Read}
+use Rattle.fluent_sources.specs.Reading.{AreRead, texts_read}
 use Rattle.fluent_cli.specs.Files.{pairs, read_of, readable_pairs, reads_of, unread_in, unread_pairs}
 use Rattle.fluent_cli_report.specs.Unread.{Unread}
 use Rattle.fluent_cli.specs.declared.reading.File.{File}

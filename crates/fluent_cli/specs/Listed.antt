@@ -6,9 +6,9 @@ use Rattle.fluent_ast.specs.Tree.{Text}
 use Rattle.fluent_places.specs.Asked.{AreAsked, AreDistinct}
 use Rattle.fluent_places.specs.Clean.{Place, Names}
 use Rattle.fluent_check.specs.Listed.{listed_names, listed_places}
-use Rattle.fluent_check.specs.ReadFiles.{files_read}
-use Rattle.fluent_check.specs.Wording.{place_text}
-use Rattle.fluent_check.specs.declared.source.Sources.{Sources}
+use Rattle.fluent_sources.specs.ReadFiles.{files_read}
+use Rattle.fluent_sources.specs.Wording.{place_text}
+use Rattle.fluent_sources.specs.declared.source.Sources.{Sources}
 use Rattle.fluent_cli_report.specs.Reported.{fault_lines}
 use Rattle.fluent_cli.specs.declared.answer.Answer.{Answer}
 use Rattle.fluent_cli.specs.declared.answer.Status.TheVariants.{Fine}

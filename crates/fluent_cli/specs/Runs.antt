@@ -1,7 +1,7 @@
 -- What a run leaves, by what is asked for and the contents of its files. What a check gives stands in `Checked`, what is shown in `Shown`.
 use Rattle.std.specs.Prelude.{◌≡◌, ◌==◌, ◌&&◌, Bool, true, false, not, List, [], ◌++◌, length, is_some, string_bytes}
-use Rattle.fluent_check.specs.Files.{mark_lines}
-use Rattle.fluent_check.specs.Reading.{texts_read}
+use Rattle.fluent_sources.specs.Files.{mark_lines}
+use Rattle.fluent_sources.specs.Reading.{texts_read}
 use Rattle.fluent_cli_report.specs.Unread.{Unread, unread_lines}
 use Rattle.fluent_cli_words.specs.declared.request.Request.{Request}
 use Rattle.fluent_cli_words.specs.declared.request.Request.TheVariants as request

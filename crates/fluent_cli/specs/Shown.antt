@@ -12,7 +12,7 @@ use Rattle.fluent_semantics.specs.Errors.{Error, error_text}
 use Rattle.fluent_fallback.specs.Chain.{Shown, first_with, pattern_asked, shown_of}
 use Rattle.fluent_places.specs.Asked.{texts}
 use Rattle.fluent_check.specs.Languages.{bundle_with}
-use Rattle.fluent_check.specs.Reading.{entries_read}
+use Rattle.fluent_sources.specs.Reading.{entries_read}
 use Rattle.fluent_cli_report.specs.Reported.{fault_lines}
 use Rattle.fluent_cli_words.specs.declared.request.Argument.{Argument}
 use Rattle.fluent_cli_words.specs.declared.request.ShowRequest.{ShowRequest}

@@ -1,17 +1,17 @@
 //! What messages and terms ask for.
 
 ghost use Rattle.std.specs.Prelude.{IfOk, OnOk, flat_map};
-ghost use Rattle.fluent_check.specs.Files.{Adds};
+ghost use Rattle.fluent_sources.specs.Files.{Adds};
 ghost use Rattle.fluent_places.specs.Asked.{texts};
 ghost use Rattle.fluent_places.specs.Clean.{place_view, views};
 ghost use Rattle.fluent_cli.specs.Inside.Listing.{line_by};
 ghost use Rattle.fluent_cli.specs.Listed.{IsListed, variable_text};
 
 use crate::answer::{Answer, Status};
-use fluent_check::wording::put_place;
 use fluent_check::{Sources, list_places};
 use fluent_cli_report::say_faults;
-use fluent_lint::{Asked, Place};
+use fluent_places::{Asked, Place};
+use fluent_sources::wording::put_place;
 use std::alloc::{AllocError, Global};
 
 /// Writes variables.

@@ -1,14 +1,14 @@
 //! Files that are named: their texts, and which can't be read.
 
 ghost use Rattle.std.specs.Prelude.{◌≡◌, ◌≤◌, ◌++◌, IfOk, IsTrue, Ok, OnOk, length, map};
-ghost use Rattle.fluent_check.specs.Reading.{AreRead, read_view};
+ghost use Rattle.fluent_sources.specs.Reading.{AreRead, read_view};
 ghost use Rattle.fluent_cli.specs.Files.{has_mark, line_at, lines_in, no_file, no_text, pairs, readable_pairs, reads_of, start_of, unread_by, unread_in, unread_of, unread_pairs, without_mark};
 ghost use Rattle.fluent_cli.specs.Inputs.{HasRead, readable, texts_in};
 ghost use Rattle.fluent_cli.specs.Inside.Reading.{AddsPair, AddsUnread, AreReadPairs, IsTextOf, ReadsBy, ReadsFile};
 ghost use Rattle.fluent_cli_report.specs.Unread.{unread_view};
 
-use fluent_check::source::{Source, Sources};
 use fluent_cli_report::UnreadFile;
+use fluent_sources::source::{Source, Sources};
 use std::alloc::{AllocError, Global};
 use std::str;
 

@@ -10,9 +10,9 @@ use crate::list::list;
 pub use crate::reading::File;
 use crate::reading::{Inputs, read_inputs};
 use crate::show::show;
-use fluent_check::source::say_marks;
 use fluent_cli_report::{UnreadFile, say_unread};
 use fluent_cli_words::Request;
+use fluent_sources::source::say_marks;
 use std::alloc::{AllocError, Global};
 
 /// What a request gives over what was read.

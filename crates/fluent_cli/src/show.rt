@@ -2,7 +2,7 @@
 
 ghost use Rattle.std.specs.Prelude.{◌≡◌, [], IfOk, OnOk, map, string_bytes};
 ghost use Rattle.fluent_check.specs.Bundles.{bundle_view};
-ghost use Rattle.fluent_check.specs.Files.{Adds};
+ghost use Rattle.fluent_sources.specs.Files.{Adds};
 ghost use Rattle.fluent_fallback.specs.Chain.{bundles_of};
 ghost use Rattle.fluent_bundle.specs.Formatted.{AddsAll};
 ghost use Rattle.fluent_resolver_state.specs.Status.{reported};

@@ -7,7 +7,7 @@ use Rattle.std.specs.declared.vec.Vec.{Vec}
 use Rattle.fluent_ast.specs.Tree.{Text}
 use Rattle.fluent_patterns.specs.Found.{Found, found_in, found_view}
 use Rattle.fluent_patterns.specs.declared.finding.Finding.{Finding}
-use Rattle.fluent_check.specs.Files.{Read}
+use Rattle.fluent_sources.specs.Files.{Read}
 use Rattle.fluent_cli_report.specs.Rows.{kept_after, line_text, row_of}
 use Rattle.fluent_cli_report.specs.Kept.{KeepsMore}
 

@@ -4,7 +4,7 @@ use Rattle.std.proofs.Common.{Global}
 use Rattle.std.specs.declared.vec.Vec.{Vec}
 use Rattle.fluent_patterns.specs.Found.{Found, found_in}
 use Rattle.fluent_patterns.specs.declared.finding.Finding.{Finding}
-use Rattle.fluent_check.specs.Files.{Read}
+use Rattle.fluent_sources.specs.Files.{Read}
 use Rattle.fluent_cli_report.specs.Rows.{Row, kept_after}
 use Rattle.fluent_cli_report.specs.declared.rows.Row as code
 

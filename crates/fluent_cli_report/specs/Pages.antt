@@ -5,7 +5,7 @@ use Rattle.std.specs.Str.Lines.{lines}
 use Rattle.std.specs.declared.vec.Vec.{Vec}
 use Rattle.std.proofs.Common.{Global}
 use Rattle.fluent_ast.specs.Tree.{Text}
-use Rattle.fluent_check.specs.Files.{Read}
+use Rattle.fluent_sources.specs.Files.{Read}
 
 abbrev pub texts : List (Bor Text) → List Text
 texts list = map (λ s. s.now) list

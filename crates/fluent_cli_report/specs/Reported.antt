@@ -2,11 +2,11 @@
 use Rattle.std.specs.Prelude.{◌≡◌, ◌==◌, ◌&&◌, ℕ, Bool, false, not, List, length, ◌++◌, flat_map, map, String}
 use Rattle.std.proofs.Common.{Global}
 use Rattle.fluent_patterns.specs.Found.{found_view}
-use Rattle.fluent_check.specs.Faults.{faults_of}
-use Rattle.fluent_check.specs.Files.{Adds, Read}
-use Rattle.fluent_check.specs.ReadFiles.{files_read}
-use Rattle.fluent_check.specs.Reading.{texts_read}
-use Rattle.fluent_check.specs.declared.source.Sources.{Sources}
+use Rattle.fluent_sources.specs.Faults.{faults_of}
+use Rattle.fluent_sources.specs.Files.{Adds, Read}
+use Rattle.fluent_sources.specs.ReadFiles.{files_read}
+use Rattle.fluent_sources.specs.Reading.{texts_read}
+use Rattle.fluent_sources.specs.declared.source.Sources.{Sources}
 use Rattle.fluent_ast.specs.Tree.{Text}
 use Rattle.fluent_cli_report.specs.Report.{report}
 use Rattle.fluent_cli_report.specs.Rows.{Row, errors_in, line_text, rows_in_order, rows_of, rows_told, warnings_in}

@@ -8,10 +8,10 @@ use Rattle.std.specs.Str.{bytes_eq}
 use Rattle.fluent_ast.specs.Tree.{Text}
 use Rattle.fluent_patterns.specs.Found.{Found}
 use Rattle.fluent_patterns.specs.Problems.{is_error, name_of}
-use Rattle.fluent_check.specs.Causes.{Folded, folded, others_text}
-use Rattle.fluent_check.specs.Files.{Read}
-use Rattle.fluent_check.specs.Positions.{column_at, found_text, line_at, name_at}
-use Rattle.fluent_check.specs.Wording.{entry_text}
+use Rattle.fluent_sources.specs.Causes.{Folded, folded, others_text}
+use Rattle.fluent_sources.specs.Files.{Read}
+use Rattle.fluent_sources.specs.Positions.{column_at, found_text, line_at, name_at}
+use Rattle.fluent_sources.specs.Wording.{entry_text}
 use Rattle.fluent_cli_report.specs.Pages.{line_in, pages_of}
 use Rattle.fluent_cli_report.specs.Sorting.{sorted_by}
 

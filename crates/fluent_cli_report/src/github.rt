@@ -1,7 +1,7 @@
 //! Rows as commands of GitHub's workflows.
 
 ghost use Rattle.std.specs.Prelude.{◌≡◌, OnOk};
-ghost use Rattle.fluent_check.specs.Files.{Adds};
+ghost use Rattle.fluent_sources.specs.Files.{Adds};
 ghost use Rattle.fluent_cli_report.specs.Kept.{row_view};
 ghost use Rattle.fluent_cli_report.specs.Report.{github_line, in_message, in_property, message_text, property_text};
 

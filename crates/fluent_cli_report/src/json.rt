@@ -3,7 +3,7 @@
 ghost use Rattle.std.specs.Prelude.{◌≡◌, [], ◌∷◌, ◌++◌, OnOk, IfOk, false, map};
 ghost use Rattle.serde_json.specs.View.{view};
 ghost use Rattle.serde_json.specs.Written.{compact_text, has_float};
-ghost use Rattle.fluent_check.specs.Files.{Adds};
+ghost use Rattle.fluent_sources.specs.Files.{Adds};
 ghost use Rattle.fluent_cli_report.specs.Json.{json_report, json_row, json_rows};
 ghost use Rattle.fluent_cli_report.specs.Kept.{row_view, row_views};
 ghost use Rattle.fluent_cli_report.specs.Told.{told};

@@ -2,10 +2,10 @@
 
 ghost use Rattle.std.specs.Prelude.{◌≡◌, IfOk, map};
 ghost use Rattle.std.specs.Str.Lines.{lines};
-ghost use Rattle.fluent_check.specs.Reading.{read_view};
+ghost use Rattle.fluent_sources.specs.Reading.{read_view};
 ghost use Rattle.fluent_cli_report.specs.Pages.{line_among, line_in, page_views, pages_of, texts};
 
-use fluent_check::Source;
+use fluent_sources::Source;
 use std::alloc::{AllocError, Global};
 
 /// The lines of a text, without what ends them.

@@ -1,7 +1,7 @@
 //! Findings as they look on a screen: colored words, and the line of each with a mark under the place.
 
 ghost use Rattle.std.specs.Prelude.{◌≡◌, OnOk, ◌++◌, replicate, string_bytes};
-ghost use Rattle.fluent_check.specs.Files.{Adds};
+ghost use Rattle.fluent_sources.specs.Files.{Adds};
 ghost use Rattle.fluent_cli_report.specs.Kept.{row_view};
 ghost use Rattle.fluent_cli_report.specs.Picture.{caret_lines, has_picture, in_picture, mark_of, picture, shown_line, word_of};
 

@@ -2,13 +2,13 @@
 
 ghost use Rattle.std.specs.Prelude.{◌≡◌, ◌++◌, OnOk, IfOk, flat_map, map};
 ghost use Rattle.fluent_patterns.specs.Found.{found_in, found_view};
-ghost use Rattle.fluent_check.specs.Files.{Adds};
-ghost use Rattle.fluent_check.specs.Reading.{read_view};
+ghost use Rattle.fluent_sources.specs.Files.{Adds};
+ghost use Rattle.fluent_sources.specs.Reading.{read_view};
 ghost use Rattle.fluent_cli_report.specs.Kept.{row_view, row_views};
 ghost use Rattle.fluent_cli_report.specs.Picture.{picture};
 ghost use Rattle.fluent_cli_report.specs.Report.{github_line, github_report, if_told, report, text_report};
 ghost use Rattle.fluent_cli_report.specs.Reported.{Reports, WritesRows, fault_lines, folds, manner_of};
-ghost use Rattle.fluent_check.specs.Lined.{lined_views};
+ghost use Rattle.fluent_sources.specs.Lined.{lined_views};
 ghost use Rattle.fluent_cli_report.specs.Pages.{page_views, pages_of};
 ghost use Rattle.fluent_cli_report.specs.Rows.{kept_in_order, line_text, rows_in_order, told_rows};
 ghost use Rattle.fluent_cli_report.specs.Unread.{unread_views};
@@ -23,10 +23,10 @@ use crate::rows::{Counts, Row, counts_of, folded_rows, is_told, kept_of, put_lin
 use crate::sarif::put_sarif;
 use crate::sorting::{left_of, sort};
 use crate::unread::{UnreadFile, first_rows};
-use fluent_check::lines::Lined;
-use fluent_check::positions::lined_of;
-use fluent_check::{Finding, Source, Sources, faults, fold};
 use fluent_cli_words::Format;
+use fluent_sources::lines::Lined;
+use fluent_sources::positions::lined_of;
+use fluent_sources::{Finding, Source, Sources, faults, fold};
 use std::alloc::{AllocError, Global};
 
 /// A number with its noun, which is in the plural but for one.

@@ -4,10 +4,10 @@ ghost use Rattle.std.specs.Prelude.{◌≡◌, [], ◌∷◌, ◌++◌, false, O
 ghost use Rattle.std.specs.List.{list_any};
 ghost use Rattle.std.specs.Str.{bytes_eq};
 ghost use Rattle.fluent_patterns.specs.Found.{found_in, found_view};
-ghost use Rattle.fluent_check.specs.Files.{Adds};
-ghost use Rattle.fluent_check.specs.Causes.{folded_view};
-ghost use Rattle.fluent_check.specs.Lined.{lined_views};
-ghost use Rattle.fluent_check.specs.Wording.{entry_text};
+ghost use Rattle.fluent_sources.specs.Files.{Adds};
+ghost use Rattle.fluent_sources.specs.Causes.{folded_view};
+ghost use Rattle.fluent_sources.specs.Lined.{lined_views};
+ghost use Rattle.fluent_sources.specs.Wording.{entry_text};
 ghost use Rattle.fluent_cli_report.specs.Kept.{KeepsMore, row_view, row_views};
 ghost use Rattle.fluent_cli_report.specs.Rows.{errors_in, folded_row, kept, line_text, line_with, row_of, severity, warnings_in};
 ghost use Rattle.fluent_cli_report.specs.Pages.{page_views, pages_of};
@@ -16,12 +16,12 @@ ghost use Rattle.std.specs.Option.{option_map};
 ghost use Rattle.fluent_places.specs.Clean.{place_view};
 
 use crate::pages::line_in;
-use fluent_check::causes::put_others;
-use fluent_check::lines::Lined;
-use fluent_check::positions::{name_at, position_at};
-use fluent_check::wording::{put_place, put_problem};
-use fluent_check::{Finding, Folded};
-use fluent_lint::Place;
+use fluent_places::Place;
+use fluent_sources::causes::put_others;
+use fluent_sources::lines::Lined;
+use fluent_sources::positions::{name_at, position_at};
+use fluent_sources::wording::{put_place, put_problem};
+use fluent_sources::{Finding, Folded};
 use indexmap::IndexSet;
 use std::alloc::{AllocError, Global};
 

@@ -7,7 +7,7 @@ ghost use Rattle.fluent_patterns.specs.Found.{AddsFound, found_in, found_view};
 ghost use Rattle.std.specs.Prelude.{map};
 ghost use Rattle.fluent_cli_report.specs.Rows.{if_left, in_order, is_left, left_of};
 
-use fluent_check::Finding;
+use fluent_sources::Finding;
 use std::alloc::{AllocError, Global};
 
 /// Whether a name is among others.

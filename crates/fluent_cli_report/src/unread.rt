@@ -1,7 +1,7 @@
 //! Files that can't be read.
 
 ghost use Rattle.std.specs.Prelude.{◌≡◌, IfOk, OnOk, flat_map, map};
-ghost use Rattle.fluent_check.specs.Files.{Adds};
+ghost use Rattle.fluent_sources.specs.Files.{Adds};
 ghost use Rattle.fluent_cli_report.specs.Kept.{row_view, row_views};
 ghost use Rattle.fluent_cli_report.specs.Unread.{unread_line, unread_lines, unread_row, unread_rows, unread_view};
 

@@ -1,17 +1,20 @@
--- How the words are read once an argument, or a subcommand, is added.
-use Rattle.std.proofs.Common.{Result, IfOk}
+-- How the words are read by a command with one more argument, or one more subcommand.
+use Rattle.std.proofs.Common.{◌∙◌, ◌++◌, ◌||◌, List, [], ◌∷◌, ap₂, Result, IfOk}
 use Rattle.std.proofs.lemmas.Result.{IfOk-weaker}
+use Rattle.clap.specs.Built.{AddsArg}
 use Rattle.clap.specs.Simple.{App, with_rule, with_subcommand}
-use Rattle.clap.specs.Walk.{Rule}
+use Rattle.clap.specs.Walk.{Rule, Text}
 use Rattle.clap.specs.declared.builder.arg.Arg.{Arg}
 use Rattle.clap.specs.declared.builder.command.Command.{Command}
-use Rattle.fluent_cli_words.specs.Commands.{IsArgument, Reads}
+use Rattle.fluent_cli_words.specs.Commands.{IsArgument, Reads, alone, command}
 
-module _ {E : Type 0} (result : Result Command E) (command : Command) (app : App) where
-  pub with_one : (argument : Arg) (rule : Rule)
-      → IfOk result (λ c. (app : App) (rule : Rule) → Reads app command → IsArgument rule argument → Reads (with_rule app rule) c)
-      → Reads app command → IsArgument rule argument → IfOk result (Reads (with_rule app rule))
-  with_one argument rule adds reads is = IfOk-weaker result _ _ (λ c h. h app rule reads is) adds
+pub one_more : (old new : Command) (argument : Arg) (name : Text) (rules : List Rule) (rule : Rule)
+    → Reads (alone (command name rules)) old → IsArgument rule argument → AddsArg old argument new
+    → Reads (alone (command name (rules ++ rule ∷ []))) new
+one_more old new argument name rules rule reads is adds = record {
+  is = adds.shape is.local ∙ ap₂ with_rule reads.is is.is;
+  local = adds.globals ∙ ap₂ (λ a b. a || b) reads.local is.local;
+}
 
 module _ {E F : Type 0} (result : Result Command E) (command : Command) (app : App) where
   pub with_sub : (subcommand : Result Command F) (added : App)

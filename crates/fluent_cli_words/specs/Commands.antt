@@ -1,13 +1,17 @@
 -- The commands of the program, as `clap` reads words by them: `matches_of`, `subcommand_of` and `fault_of` say what it makes of
 -- words.
-use Rattle.std.specs.Prelude.{◌≡◌, true, false, List, [], ◌∷◌, Some, codes}
+use Rattle.std.specs.Prelude.{◌≡◌, true, false, List, [], ◌∷◌, Some, codes, map}
 use Rattle.clap.specs.Lexer.{usize_max}
 use Rattle.clap.specs.Walk.{Rule, Text, rule_of}
-use Rattle.clap.specs.Simple.{App, Shape, app_of, new_rule, new_shape, with_rule, with_subcommand}
+use Rattle.clap.specs.Simple.{App, Shape, app_of, new_rule, new_shape, with_subcommand}
 use Rattle.clap.specs.declared.builder.action.ArgAction.TheVariants.{Append, SetTrue}
 use Rattle.clap.specs.declared.builder.arg.Arg.{Arg}
 use Rattle.clap.specs.declared.builder.command.Command.{Command}
 use Rattle.clap.specs.declared.builder.command.Command.TheViews.{out-Command as fields_of}
+use Rattle.fluent_cli_words.specs.declared.commands.Form.{Form}
+use Rattle.fluent_cli_words.specs.declared.commands.Form.TheVariants as form
+use Rattle.fluent_cli_words.specs.declared.commands.Row.{Row}
+use Rattle.fluent_cli_words.specs.declared.commands.Table.{Table}
 
 -- ---- arguments
 
@@ -44,51 +48,61 @@ some_words name = record (new_rule name) {
   required = true;
 }
 
+-- by how words are read into it
+abbrev pub rule_in : Form → Text → Rule
+rule_in (form.Option value) name = option name
+rule_in (form.RepeatedOption value) name = repeated_option name
+rule_in form.Flag name = flag name
+rule_in (form.OneWord value) name = one_word name
+rule_in (form.AnyWords value) name = any_words name
+rule_in (form.SomeWords value) name = some_words name
+
+-- by its row
+abbrev pub rule_of_row : Row → Rule
+rule_of_row row = rule_in row.form row.name.now
+
 -- ---- commands
 
 -- a command without subcommands, by its arguments
 abbrev pub command : Text → List Rule → Shape
 command name rules = record (new_shape name) { rules = rules }
 
+-- by its table
+abbrev pub command_of : Table → Shape
+command_of table = command table.name.now (map rule_of_row table.rows.now)
+
 abbrev pub alone : Shape → App
 alone shape = record { top = shape; subs = [] }
 
-abbrev pub check_of_files : Shape
-check_of_files = command (codes "check")
-    (option (codes "language")
-    ∷ (repeated_option (codes "reference")
-    ∷ (repeated_option (codes "with")
-    ∷ (option (codes "translation") ∷ []))))
-
-abbrev pub with_telling : App → App
-with_telling app =
-    with_rule (with_rule (with_rule (with_rule app (option (codes "format"))) (flag (codes "quiet"))) (flag (codes "strict"))) (flag (codes "every"))
-
-abbrev pub with_marks : App → App
-with_marks app = with_rule (with_rule app (flag (codes "caret"))) (flag (codes "color"))
-
-abbrev pub with_looking : App → App
-with_looking app =
-    with_rule (with_rule (with_rule (with_rule app (flag (codes "each"))) (flag (codes "all-categories")))
-    (repeated_option (codes "function"))) (repeated_option (codes "allow"))
-
 abbrev pub check_command : Shape
-check_command = (with_rule (with_looking (with_marks (with_telling (alone check_of_files)))) (any_words (codes "file"))).top
-
-abbrev pub show_with_options : Shape
-show_with_options = command (codes "show")
+check_command = command (codes "check")
     (option (codes "language")
-    ∷ (repeated_option (codes "fallback")
-    ∷ (repeated_option (codes "text")
-    ∷ (flag (codes "strict") ∷ []))))
-
-abbrev pub with_loading : App → App
-with_loading app = with_rule (with_rule app (repeated_option (codes "with"))) (repeated_option (codes "function"))
+    ∷ repeated_option (codes "reference")
+    ∷ repeated_option (codes "with")
+    ∷ option (codes "translation")
+    ∷ option (codes "format")
+    ∷ flag (codes "quiet")
+    ∷ flag (codes "strict")
+    ∷ flag (codes "every")
+    ∷ flag (codes "caret")
+    ∷ flag (codes "color")
+    ∷ flag (codes "each")
+    ∷ flag (codes "all-categories")
+    ∷ repeated_option (codes "function")
+    ∷ repeated_option (codes "allow")
+    ∷ any_words (codes "file") ∷ [])
 
 abbrev pub show_command : Shape
-show_command =
-    (with_rule (with_rule (with_rule (with_loading (alone show_with_options)) (one_word (codes "file"))) (one_word (codes "id")))
-    (any_words (codes "argument"))).top
+show_command = command (codes "show")
+    (option (codes "language")
+    ∷ repeated_option (codes "fallback")
+    ∷ repeated_option (codes "text")
+    ∷ flag (codes "strict")
+    ∷ repeated_option (codes "with")
+    ∷ repeated_option (codes "function")
+    ∷ one_word (codes "file")
+    ∷ one_word (codes "id")
+    ∷ any_words (codes "argument") ∷ [])
 
 abbrev pub list_command : Shape
 list_command = command (codes "list") (some_words (codes "file") ∷ [])

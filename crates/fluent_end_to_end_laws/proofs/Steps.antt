@@ -8,8 +8,8 @@ use Rattle.fluent_ast.specs.Tree.{Text}
 use Rattle.fluent_syntax.specs.Chunks.{entries}
 use Rattle.fluent_semantics.specs.Value.{Value}
 use Rattle.fluent_semantics.specs.Bundle.{Bundle, Call, Function, after_all}
-use Rattle.fluent_bundle.specs.BundleView.{entries_of}
-use Rattle.fluent_bundle.specs.declared.resource.FluentResource.{FluentResource}
+use Rattle.fluent_resource.specs.ResourceView.{entries_of}
+use Rattle.fluent_resource.specs.declared.resource.FluentResource.{FluentResource}
 use Rattle.fluent_end_to_end_laws.specs.Made.{step}
 use Rattle.fluent_end_to_end_laws.specs.Inside.OnTheWay.{source_of, step_over}
 use Rattle.fluent_end_to_end_laws.specs.declared.Asked.{Asked}

@@ -4,7 +4,7 @@
 ghost use Rattle.std.specs.Prelude.{◌≡◌, map, IfOk};
 ghost use Rattle.fluent_syntax.specs.Chunks.{entries};
 ghost use Rattle.fluent_text.specs.Writer.{CountsFault};
-ghost use Rattle.fluent_bundle.specs.BundleView.{entries_of};
+ghost use Rattle.fluent_resource.specs.ResourceView.{entries_of};
 ghost use Rattle.fluent_bundle.specs.Formatted.{GivesFound, WritesFound};
 ghost use Rattle.fluent_end_to_end_laws.specs.Given.{FindsAfter, GivesAfter, WritesAfter, WritesFoundAfter};
 ghost use Rattle.fluent_fallback.specs.Chain.{pattern_asked};

@@ -9,8 +9,8 @@ use Rattle.std.proofs.lemmas.Slice.Eq.{bytes_eq-Decides}
 use Rattle.fluent_ast.specs.Tree.{Text, Entry}
 use Rattle.fluent_ast.specs.View.{entry_view}
 use Rattle.fluent_ast.specs.declared.ast.Entry as code
-use Rattle.fluent_bundle.specs.BundleView.{entries_of}
-use Rattle.fluent_bundle.specs.declared.resource.FluentResource.{FluentResource}
+use Rattle.fluent_resource.specs.ResourceView.{entries_of}
+use Rattle.fluent_resource.specs.declared.resource.FluentResource.{FluentResource}
 use Rattle.fluent_lint.specs.Twice.{Defined, again_after, again_if, again_view, defined_from, defined_if, defined_in, first_defined, id_of}
 use Rattle.fluent_lint.specs.Inside.Seen.{AreFirsts, GoesOver, IsSeen, noted_first}
 use Rattle.fluent_lint.specs.declared.sources.Definition.{Definition}

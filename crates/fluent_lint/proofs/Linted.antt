@@ -5,8 +5,8 @@ use Rattle.std.proofs.lemmas.List.{append_assoc, append-nil, map-append, take_mo
 use Rattle.fluent_ast.specs.Tree as t
 use Rattle.fluent_ast.specs.Tree.{Text}
 use Rattle.fluent_semantics.specs.Bundle.{Bundle}
-use Rattle.fluent_bundle.specs.BundleView.{entries_of}
-use Rattle.fluent_bundle.specs.declared.resource.FluentResource.{FluentResource}
+use Rattle.fluent_resource.specs.ResourceView.{entries_of}
+use Rattle.fluent_resource.specs.declared.resource.FluentResource.{FluentResource}
 use Rattle.fluent_places.specs.Clean.{Place, place_view, views, names_of, places_in}
 use Rattle.fluent_places.specs.Findings.{AreFindingsOf}
 use Rattle.fluent_lint.specs.Lints.{places_in_resources, Lints}

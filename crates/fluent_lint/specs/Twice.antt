@@ -7,8 +7,8 @@ use Rattle.fluent_ast.specs.Tree.{Text, Entry, message_entry, term_entry, junk_e
 use Rattle.fluent_ast.specs.declared.errors.ParserError.{ParserError}
 use Rattle.fluent_syntax.specs.Chunks.{junk_ranges}
 use Rattle.fluent_syntax.specs.Parsed.{error_range}
-use Rattle.fluent_bundle.specs.BundleView.{entries_of}
-use Rattle.fluent_bundle.specs.declared.resource.FluentResource.{FluentResource}
+use Rattle.fluent_resource.specs.ResourceView.{entries_of}
+use Rattle.fluent_resource.specs.declared.resource.FluentResource.{FluentResource}
 use Rattle.fluent_lint.specs.declared.sources.Definition.{Definition}
 use Rattle.fluent_lint.specs.declared.sources.Twice.{Twice}
 

@@ -7,7 +7,7 @@ ghost use Rattle.fluent_lint.specs.Twice.{AreTwice, AreUnreadable, defined_from,
 ghost use Rattle.fluent_lint.specs.Inside.Seen.{GoesOver, noted_first};
 ghost use Rattle.fluent_places.specs.Clean.{views};
 ghost use Rattle.fluent_lint.specs.Lints.{places_in_resources};
-ghost use Rattle.fluent_bundle.specs.BundleView.{source_in};
+ghost use Rattle.fluent_resource.specs.ResourceView.{source_in};
 
 use fluent_bundle::{FluentResource, ParserError, TryNewFault, ast};
 use fluent_places::{Place, places_of};

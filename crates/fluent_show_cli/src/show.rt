@@ -3,7 +3,7 @@
 ghost use Rattle.std.specs.Prelude.{◌≡◌, ◌≢◌, [], Err, IfOk};
 ghost use Rattle.fluent_syntax.specs.Chunks as grammar;
 ghost use Rattle.fluent_text.specs.Writer.{CountsFault};
-ghost use Rattle.fluent_bundle.specs.BundleView.{entries_of};
+ghost use Rattle.fluent_resource.specs.ResourceView.{entries_of};
 ghost use Rattle.fluent_show_cli.specs.Program.{line, junk_errors, start};
 ghost use Rattle.fluent_show_cli.specs.Inside.PluralsView.{plurals_view};
 ghost use Rattle.fluent_show_cli.specs.Inside.BundleView.{args_view, bundle_view};

@@ -3,7 +3,7 @@ ghost use Rattle.std.specs.Prelude.{◌≡◌, IfOk, IsTrue, Some};
 ghost use Rattle.fluent_ast.specs.Tree.{Text};
 ghost use Rattle.fluent_ast.specs.View.{pattern_view};
 ghost use Rattle.fluent_bundle_entries.specs.Texts.{sole_text};
-ghost use Rattle.fluent_bundle.specs.BundleView.{entries_of};
+ghost use Rattle.fluent_resource.specs.ResourceView.{entries_of};
 ghost use Rattle.test_contracts.specs.Composed.{calling, showing};
 
 use crate::own::{Bracketed, Own, Upper};

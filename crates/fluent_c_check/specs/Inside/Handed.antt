@@ -5,8 +5,8 @@ use Rattle.std.specs.Option.{option_map}
 use Rattle.fluent_ast.specs.Tree.{Text}
 use Rattle.fluent_answers.specs.ArgumentView.{argument_view}
 use Rattle.fluent_answers.specs.Records.{Are}
-use Rattle.fluent_check.specs.Files.{Read}
-use Rattle.fluent_check.specs.Reading.{AreRead, texts_read}
+use Rattle.fluent_sources.specs.Files.{Read}
+use Rattle.fluent_sources.specs.Reading.{AreRead, texts_read}
 use Rattle.fluent_check.specs.declared.checking.Found.{Found}
 use Rattle.fluent_cli_report.specs.Rows.{errors_in, warnings_in}
 use Rattle.fluent_c_check.specs.Checks.{Finds, HandsOver, Lists, Wanted, all_reads, language_of, reads_of, rows_in, runs_of, told_in}

@@ -2,7 +2,7 @@
 use Rattle.std.specs.Prelude.{◌≡◌, Bool, true, false, List, [], String}
 use Rattle.std.proofs.Common.{Global}
 use Rattle.fluent_patterns.specs.Found.{found_in}
-use Rattle.fluent_check.specs.Files.{Adds, Read}
+use Rattle.fluent_sources.specs.Files.{Adds, Read}
 use Rattle.fluent_check.specs.declared.checking.Found.{Found}
 use Rattle.fluent_cli_report.specs.Reported.{Manner}
 use Rattle.fluent_cli_report.specs.Rows.{errors_in, rows_of, warnings_in}

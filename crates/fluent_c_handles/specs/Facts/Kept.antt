@@ -12,7 +12,7 @@ use Rattle.fluent_semantics.specs.Bundle as m
 use Rattle.fluent_bundle_entries.specs.EntryView.{message_content}
 use Rattle.fluent_c_handles.specs.Answers.{new_bundle, with_source}
 use Rattle.fluent_syntax.specs.Chunks.{entries}
-use Rattle.fluent_bundle.specs.BundleView.{entries_of}
+use Rattle.fluent_resource.specs.ResourceView.{entries_of}
 use Rattle.fluent_c_handles.specs.declared.message_ids.Added.{Added}
 use Rattle.fluent_c_handles.specs.Inside.Resources.{AllFrom, given, is_among, is_message_of}
 use Rattle.fluent_c_handles.specs.Calls.Finding.{names_message}

@@ -14,9 +14,10 @@ use Rattle.fluent_answers.specs.declared.formatter.AskedFormatter.{AskedFormatte
 use Rattle.fluent_answers.specs.declared.function.AskedFunction.{AskedFunction}
 use Rattle.fluent_answers.specs.declared.own.OwnValue.{OwnValue}
 use Rattle.fluent_answers.specs.declared.transform.AskedTransform.{AskedTransform}
-use Rattle.fluent_bundle.specs.BundleView.{entries_in, entries_of}
+use Rattle.fluent_bundle.specs.BundleView.{entries_in}
+use Rattle.fluent_resource.specs.ResourceView.{entries_of}
 use Rattle.fluent_bundle.specs.declared.bundle.FluentBundle.{FluentBundle}
-use Rattle.fluent_bundle.specs.declared.resource.FluentResource.{FluentResource}
+use Rattle.fluent_resource.specs.declared.resource.FluentResource.{FluentResource}
 use Rattle.fluent_c_handles.specs.Family.{is_asked}
 use Rattle.fluent_c_handles.specs.declared.message_ids.Added.{Added}
 

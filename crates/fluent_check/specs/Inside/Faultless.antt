@@ -5,15 +5,15 @@ use Rattle.fluent_ast.specs.Tree.{Text}
 use Rattle.fluent_semantics.specs.Bundle.{Bundle}
 use Rattle.fluent_places.specs.Clean.{names_of}
 use Rattle.fluent_check.specs.Called.{with_functions}
-use Rattle.fluent_check.specs.Groups.{Group, loaded}
+use Rattle.fluent_sources.specs.Groups.{Group, loaded}
 use Rattle.fluent_check.specs.Languages.{all_of}
 use Rattle.fluent_check.specs.Linted.{NoneFails}
 use Rattle.fluent_check.specs.Patterns.{called_in}
 use Rattle.fluent_check.specs.Places.{places_of}
-use Rattle.fluent_check.specs.ReadFiles.{ReadFile, entries_in}
-use Rattle.fluent_check.specs.Standing.{Standing, standings_in}
-use Rattle.fluent_check.specs.declared.checking.Grouping.{Grouping}
-use Rattle.fluent_check.specs.declared.checking.Grouping.TheVariants.{Together, Each, Pairs}
+use Rattle.fluent_sources.specs.ReadFiles.{ReadFile, entries_in}
+use Rattle.fluent_sources.specs.Standing.{Standing, standings_in}
+use Rattle.fluent_sources.specs.declared.groups.Grouping.{Grouping}
+use Rattle.fluent_sources.specs.declared.groups.Grouping.TheVariants.{Together, Each, Pairs}
 
 -- a bundle with each function that the patterns of places call
 abbrev pub calling : Bundle Text → List Standing → Bundle Text

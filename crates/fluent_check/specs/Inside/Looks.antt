@@ -15,12 +15,12 @@ use Rattle.fluent_patterns.specs.Terms.{TellsAskedAt}
 use Rattle.fluent_patterns.specs.declared.finding.Finding.{Finding}
 use Rattle.fluent_check.specs.Called.{with_functions}
 use Rattle.fluent_check.specs.Differences.{AreAllDifferences, AreDifferences}
-use Rattle.fluent_check.specs.Groups.{Group, entries_loaded}
+use Rattle.fluent_sources.specs.Groups.{Group, entries_loaded}
 use Rattle.fluent_check.specs.Linted.{AreLinted, is_none}
 use Rattle.fluent_check.specs.Looks.{IsLook, Look, found_in_looks, none_listed}
 use Rattle.fluent_check.specs.Patterns.{called_in, found_in_patterns, found_selects}
 use Rattle.fluent_check.specs.Places.{first_at, place_of}
-use Rattle.fluent_check.specs.Standing.{Standing}
+use Rattle.fluent_sources.specs.Standing.{Standing}
 use Rattle.fluent_check.specs.Tried.{is_shown}
 use Rattle.fluent_check.specs.Whole.{found_wholes, whole_problems}
 use Rattle.fluent_check.specs.declared.checking.Settings.{Settings}

@@ -6,25 +6,14 @@ use Rattle.std.specs.declared.alloc.Global.{Global}
 use Rattle.indexmap.specs.IndexSet.{IndexSet}
 use Rattle.fluent_ast.specs.Tree.{Text}
 use Rattle.fluent_places.specs.Asked.{texts}
-use Rattle.fluent_bundle.specs.declared.bundle.FluentBundle.{FluentBundle}
-use Rattle.fluent_places.specs.Clean.{Names, Need, names_of}
+use Rattle.fluent_places.specs.Clean.{Need}
 use Rattle.fluent_places.specs.NeedsView.{needs_view}
 use Rattle.fluent_places.specs.declared.listing.Need as code_need
-use Rattle.fluent_plural_rules.specs.declared.rule_texts.RuleTexts.{RuleTexts}
-use Rattle.fluent_values.specs.declared.formatter.NoFormatter.{NoFormatter}
-use Rattle.fluent_values.specs.declared.function.NoFunction.{NoFunction}
-use Rattle.fluent_values.specs.declared.transform.NoTransform.{NoTransform}
-use Rattle.fluent_values.specs.declared.types.custom.NoCustom.{NoCustom}
 use Rattle.fluent_patterns.specs.Found.{flaws_in}
 use Rattle.fluent_patterns.specs.declared.finding.Flaw as code_flaw
 use Rattle.fluent_check.specs.Among.{is_in}
-use Rattle.fluent_check.specs.Bundles.{bundle_view}
 use Rattle.fluent_check.specs.Compared.{is_reference, term_of, function_of, Told, firsts}
 use Rattle.fluent_check.specs.declared.compared.Own.{Own}
-
--- what ids name in a bundle of the code
-abbrev pub names_by : FluentBundle RuleTexts NoCustom NoFunction NoFormatter NoTransform → Names Text
-names_by bundle = names_of (bundle_view bundle)
 
 -- a need is added, if it is a reference
 abbrev pub AddsReference : Need → Vec code_need.Need Global → Vec code_need.Need Global → Type 0

@@ -5,7 +5,7 @@ use Rattle.fluent_ast.specs.Tree.{Text}
 use Rattle.fluent_places.specs.Clean.{Place, Names}
 use Rattle.fluent_check.specs.Among.{same_place}
 use Rattle.fluent_check.specs.Places.{first_places, keys_of, place_of}
-use Rattle.fluent_check.specs.Standing.{Standing, standings}
+use Rattle.fluent_sources.specs.Standing.{Standing, standings}
 use Rattle.fluent_check.specs.declared.places.Places.{Places}
 
 -- one more is gone over, whatever comes after it

@@ -5,8 +5,8 @@ use Rattle.std.specs.Str.{is_utf8}
 use Rattle.std.specs.declared.vec.Vec.{Vec}
 use Rattle.std.proofs.Common.{Global}
 use Rattle.fluent_ast.specs.Tree.{Text}
-use Rattle.fluent_check.specs.Reading.{AreRead, read_view}
-use Rattle.fluent_check.specs.declared.source.Source.{Source}
+use Rattle.fluent_sources.specs.Reading.{AreRead, read_view}
+use Rattle.fluent_sources.specs.declared.source.Source.{Source}
 use Rattle.fluent_cli.specs.Files.{bad_byte, fault_by, read_by, read_of, readable_pairs, without_mark}
 use Rattle.fluent_cli_report.specs.Unread.{Unread, unread_views}
 use Rattle.fluent_cli_report.specs.declared.unread.UnreadFile.{UnreadFile}

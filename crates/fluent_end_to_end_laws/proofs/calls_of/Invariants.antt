@@ -1,5 +1,5 @@
 use Rattle.std.proofs.Common.{◌≡◌, map}
-use Rattle.fluent_bundle.specs.BundleView.{entries_of}
+use Rattle.fluent_resource.specs.ResourceView.{entries_of}
 use Rattle.fluent_bundle.specs.Calls.{asks}
 use Rattle.fluent_end_to_end_laws.specs.Inside.OnTheWay.{step_over}
 use Rattle.fluent_end_to_end_laws.proofs.calls_of.Given as goal

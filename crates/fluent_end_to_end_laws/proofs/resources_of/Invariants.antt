@@ -1,6 +1,6 @@
 use Rattle.std.proofs.Common.{◌≡◌, take, map}
 use Rattle.fluent_syntax.specs.Chunks.{entries}
-use Rattle.fluent_bundle.specs.BundleView.{entries_of}
+use Rattle.fluent_resource.specs.ResourceView.{entries_of}
 use Rattle.fluent_end_to_end_laws.specs.Inside.OnTheWay.{source_of}
 use Rattle.fluent_end_to_end_laws.proofs.resources_of.Given as goal
 

@@ -5,10 +5,10 @@ use Rattle.fluent_ast.specs.Tree.{Text}
 use Rattle.fluent_semantics.specs.Value.{Value}
 use Rattle.fluent_semantics.specs.Bundle.{Function, Call, add_resource, add_resource_overriding}
 use Rattle.fluent_syntax.specs.Chunks.{entries}
-use Rattle.fluent_bundle.specs.BundleView.{entries_of}
+use Rattle.fluent_resource.specs.ResourceView.{entries_of}
 use Rattle.fluent_bundle.specs.Calls.{asks}
 use Rattle.fluent_bundle.specs.declared.calls.Call as code
-use Rattle.fluent_bundle.specs.declared.resource.FluentResource.{FluentResource}
+use Rattle.fluent_resource.specs.declared.resource.FluentResource.{FluentResource}
 use Rattle.fluent_end_to_end_laws.specs.Made.{step}
 use Rattle.fluent_end_to_end_laws.specs.declared.Asked.{Asked}
 use Rattle.fluent_end_to_end_laws.specs.declared.Asked.TheVariants as asked

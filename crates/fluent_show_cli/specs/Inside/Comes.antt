@@ -17,9 +17,10 @@ use Rattle.fluent_semantics.specs.Errors.{Error}
 use Rattle.fluent_semantics.specs.Value.{Value}
 use Rattle.fluent_resolver_state.specs.Status.{reported}
 use Rattle.fluent_bundle_entries.specs.declared.errors.FluentError.{FluentError}
-use Rattle.fluent_bundle.specs.BundleView.{entries_of, value_at}
+use Rattle.fluent_bundle.specs.BundleView.{value_at}
+use Rattle.fluent_resource.specs.ResourceView.{entries_of}
 use Rattle.fluent_bundle.specs.declared.bundle.FluentBundle.{FluentBundle}
-use Rattle.fluent_bundle.specs.declared.resource.FluentResource.{FluentResource}
+use Rattle.fluent_resource.specs.declared.resource.FluentResource.{FluentResource}
 use Rattle.fluent_values.specs.declared.formatter.NoFormatter.{NoFormatter}
 use Rattle.fluent_values.specs.declared.function.NoFunction.{NoFunction}
 use Rattle.fluent_values.specs.declared.transform.NoTransform.{NoTransform}

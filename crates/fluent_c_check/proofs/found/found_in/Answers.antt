@@ -1,10 +1,10 @@
 use Rattle.std.proofs.Common.{Ok, Err, IfOk, IsTrue, false, ◌++◌, ◌∙◌, map, refl, ap, ap₂, subst}
 use Rattle.std.specs.declared.result.Result.{Result}
 use Rattle.fluent_check.specs.Faultless.{AreFaultless, AreFaultlessBy, tag_of}
-use Rattle.fluent_check.specs.Groups.{read_group}
+use Rattle.fluent_sources.specs.Groups.{read_group}
 use Rattle.fluent_check.specs.Looks.{IsFound}
-use Rattle.fluent_check.specs.Reading.{entries_read}
-use Rattle.fluent_check.specs.declared.checking.Grouping.TheVariants.{Together}
+use Rattle.fluent_sources.specs.Reading.{entries_read}
+use Rattle.fluent_sources.specs.declared.groups.Grouping.TheVariants.{Together}
 use Rattle.fluent_check.specs.declared.checking.Settings.{Settings}
 use Rattle.fluent_answers.specs.ArgumentView.{argument_view}
 use Rattle.fluent_places.specs.Asked.{texts}

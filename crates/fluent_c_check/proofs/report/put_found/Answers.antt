@@ -1,6 +1,6 @@
 use Rattle.std.proofs.Common.{◌∙◌, ◌++◌, [], map, ap, ap₂}
 use Rattle.std.proofs.lemmas.Result.{IfOk-weaker}
-use Rattle.fluent_check.specs.Reading.{read_view}
+use Rattle.fluent_sources.specs.Reading.{read_view}
 use Rattle.fluent_cli_report.specs.Reported.{Reports}
 use Rattle.fluent_cli_report.specs.declared.report.Outcome.{Outcome}
 use Rattle.fluent_c_check.specs.Inside.Handed.{reads_handed}

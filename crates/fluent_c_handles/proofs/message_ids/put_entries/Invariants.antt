@@ -1,7 +1,7 @@
 use Rattle.std.proofs.Common.{◌≡◌, map}
 use Rattle.std.specs.Slice.Iter.{iter_rest}
 use Rattle.fluent_ast.specs.View.{entry_view}
-use Rattle.fluent_bundle.specs.BundleView.{entries_of}
+use Rattle.fluent_resource.specs.ResourceView.{entries_of}
 use Rattle.fluent_c_handles.specs.Answers.{bundle_view}
 use Rattle.fluent_c_handles.specs.Inside.Gathered.{gathered, with_entries}
 use Rattle.fluent_c_handles.specs.Calls.Finding.{names_message}

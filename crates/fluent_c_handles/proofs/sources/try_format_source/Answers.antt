@@ -1,7 +1,7 @@
 use Rattle.std.proofs.Common.{◌≡◌, ◌∙◌, [], ap, rules}
 use Rattle.std.specs.Prelude.{◌≢◌}
 use Rattle.fluent_syntax.specs.Chunks.{entries, chunks_within}
-use Rattle.fluent_bundle.specs.BundleView.{entries_of}
+use Rattle.fluent_resource.specs.ResourceView.{entries_of}
 use Rattle.fluent_c_handles.specs.Answers.{bundle_view}
 use Rattle.fluent_c_handles.proofs.sources.try_format_source.Goals as goal
 

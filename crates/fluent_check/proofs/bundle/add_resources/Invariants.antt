@@ -1,5 +1,6 @@
 use Rattle.std.proofs.Common.{◌≡◌, drop}
-use Rattle.fluent_check.specs.Bundles.{bundle_view, entries_of_all}
+use Rattle.fluent_check.specs.Bundles.{bundle_view}
+use Rattle.fluent_sources.specs.Reading.{entries_of_all}
 use Rattle.fluent_check.specs.Languages.{adding_all}
 use Rattle.fluent_check.proofs.bundle.add_resources.Given as goal
 

@@ -1,6 +1,7 @@
 use Rattle.std.proofs.Common.{◌≡◌, ◌++◌, drop, map}
 use Rattle.fluent_places.specs.Asked.{texts}
-use Rattle.fluent_check.specs.Bundles.{bundle_view, entries_of_all, resource_bundle}
+use Rattle.fluent_check.specs.Bundles.{bundle_view, resource_bundle}
+use Rattle.fluent_sources.specs.Reading.{entries_of_all}
 use Rattle.fluent_check.proofs.bundle.bundles_of.Given as goal
 
 abbrev pub invariant-loop-resource : goal.invariant-loop-resource

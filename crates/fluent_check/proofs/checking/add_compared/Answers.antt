@@ -3,8 +3,8 @@ use Rattle.std.proofs.lemmas.List.{append-nil}
 use Rattle.fluent_places.specs.Clean.{names_of}
 use Rattle.fluent_patterns.specs.Found.{found_in}
 use Rattle.fluent_check.specs.Bundles.{bundle_view}
-use Rattle.fluent_check.specs.Groups.{group_view}
-use Rattle.fluent_check.specs.Standing.{standings}
+use Rattle.fluent_sources.specs.Groups.{group_view}
+use Rattle.fluent_sources.specs.Standing.{standings}
 use Rattle.fluent_check.proofs.Editions.{none_differ, some_ok}
 use Rattle.fluent_check.proofs.checking.add_compared.Goals as goal
 

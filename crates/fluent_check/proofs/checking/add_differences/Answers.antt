@@ -3,10 +3,10 @@ use Rattle.std.proofs.lemmas.List.{length-map}
 use Rattle.fluent_places.specs.Clean.{names_of}
 use Rattle.fluent_check.specs.Bundles.{bundle_view}
 use Rattle.fluent_check.specs.Differences.{edition_view, reference_names, reference_places}
-use Rattle.fluent_check.specs.Groups.{group_view, loaded}
+use Rattle.fluent_sources.specs.Groups.{group_view, loaded}
 use Rattle.fluent_check.specs.Places.{places_of}
-use Rattle.fluent_check.specs.ReadFiles.{file_view}
-use Rattle.fluent_check.specs.Standing.{standing_view, standings, standings_in}
+use Rattle.fluent_sources.specs.ReadFiles.{file_view}
+use Rattle.fluent_sources.specs.Standing.{standing_view, standings, standings_in}
 use Rattle.fluent_check.proofs.Editions.{all_ok, asked_of, edition_asks, edition_is}
 use Rattle.fluent_check.proofs.checking.add_differences.Goals as goal
 

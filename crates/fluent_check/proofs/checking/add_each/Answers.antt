@@ -1,10 +1,10 @@
 use mathlib.Core.Bool.{true≢false}
 use Rattle.std.proofs.Common.{◌≡◌, ◌∙◌, ◌++◌, ◌&&◌, ◌∷◌, [], Bool, true, false, ap, map, subst, sym, take}
 use Rattle.fluent_check.specs.Faultless.{tag_of}
-use Rattle.fluent_check.specs.Groups.{Group, group_view, loaded, groups_from, of_file}
+use Rattle.fluent_sources.specs.Groups.{Group, group_view, loaded, groups_from, of_file}
 use Rattle.fluent_check.specs.Inside.Faultless.{AreFaultlessFiles, IsFaultlessBeside}
 use Rattle.fluent_check.specs.Inside.Looks.{AddsLooks}
-use Rattle.fluent_check.specs.ReadFiles.{file_view}
+use Rattle.fluent_sources.specs.ReadFiles.{file_view}
 use Rattle.fluent_check.proofs.AllTaken.{all_more, taken}
 use Rattle.fluent_check.proofs.Looking.{and_false, and_true, groups_more, looks_both, no_looks}
 use Rattle.fluent_check.proofs.checking.add_each.Goals as goal

@@ -1,10 +1,10 @@
 use Rattle.std.proofs.Common.{IsTrue, map, take}
 use Rattle.std.specs.List.{AllByRecursion}
 use Rattle.fluent_check.specs.Faultless.{tag_of}
-use Rattle.fluent_check.specs.Groups.{group_view, groups_from}
+use Rattle.fluent_sources.specs.Groups.{group_view, groups_from}
 use Rattle.fluent_check.specs.Inside.Faultless.{IsFaultlessBeside}
 use Rattle.fluent_check.specs.Inside.Looks.{AddsLooks}
-use Rattle.fluent_check.specs.ReadFiles.{file_view}
+use Rattle.fluent_sources.specs.ReadFiles.{file_view}
 use Rattle.fluent_check.proofs.checking.add_each.Given as goal
 
 abbrev pub invariant-loop-index : goal.invariant-loop-index

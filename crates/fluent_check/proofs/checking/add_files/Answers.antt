@@ -3,11 +3,11 @@ use Rattle.fluent_places.specs.Clean.{names_of}
 use Rattle.fluent_patterns.specs.CategoryView.{categories_view}
 use Rattle.fluent_check.specs.Bundles.{bundle_view}
 use Rattle.fluent_check.specs.Differences.{reference_names}
-use Rattle.fluent_check.specs.Groups.{entries_loaded, group_view, loaded}
+use Rattle.fluent_sources.specs.Groups.{entries_loaded, group_view, loaded}
 use Rattle.fluent_check.specs.Languages.{all_of}
 use Rattle.fluent_check.specs.Looks.{bundle_in, places_in, standings_loaded}
 use Rattle.fluent_check.specs.Places.{places_of}
-use Rattle.fluent_check.specs.Standing.{standing_view, standings}
+use Rattle.fluent_sources.specs.Standing.{standing_view, standings}
 use Rattle.fluent_check.specs.Faultless.{tag_of}
 use Rattle.fluent_check.proofs.CalledPlaces.{clean_ok}
 use Rattle.fluent_check.proofs.Looking.{one_look}

@@ -4,12 +4,12 @@ use Rattle.fluent_places.specs.Clean.{names_of}
 use Rattle.fluent_patterns.specs.Found.{found_in}
 use Rattle.fluent_check.specs.Bundles.{bundle_view}
 use Rattle.fluent_check.specs.Called.{with_functions}
-use Rattle.fluent_check.specs.Groups.{entries_loaded, group_view}
+use Rattle.fluent_sources.specs.Groups.{entries_loaded, group_view}
 use Rattle.fluent_check.specs.Inside.Places.{place_found}
 use Rattle.fluent_check.specs.Linted.{AreLinted, NoneFails}
 use Rattle.fluent_check.specs.Patterns.{called_in}
 use Rattle.fluent_check.specs.Places.{first_at, keys_of}
-use Rattle.fluent_check.specs.Standing.{standings}
+use Rattle.fluent_sources.specs.Standing.{standings}
 use Rattle.fluent_check.specs.Tried.{is_shown}
 use Rattle.fluent_check.specs.Whole.{found_wholes, wholes, whole_problems}
 use Rattle.fluent_check.proofs.Looking.{same_wholes}

@@ -1,8 +1,8 @@
 use Rattle.std.proofs.Common.{[], map}
 use Rattle.fluent_patterns.specs.Found.{found_in}
-use Rattle.fluent_check.specs.Repeated.{function_ids, repeated_attributes}
-use Rattle.fluent_check.specs.Standing.{standing_view}
-use Rattle.fluent_check.specs.Taken.{taken}
+use Rattle.fluent_sources.specs.Repeated.{function_ids, repeated_attributes}
+use Rattle.fluent_sources.specs.Standing.{standing_view}
+use Rattle.fluent_sources.specs.Taken.{taken}
 use Rattle.fluent_check.proofs.Chained.{three_ok}
 use Rattle.fluent_check.proofs.checking.add_names.Goals as goal
 

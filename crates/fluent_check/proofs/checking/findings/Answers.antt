@@ -1,10 +1,10 @@
 use Rattle.std.proofs.Common.{◌≡◌, ◌∙◌, ◌++◌, ap, length, map}
 use Rattle.fluent_patterns.specs.Found.{found_in, found_view}
 use Rattle.fluent_check.specs.Faultless.{tag_of}
-use Rattle.fluent_check.specs.Groups.{all_in, groups_of, read_group}
+use Rattle.fluent_sources.specs.Groups.{all_in, groups_of, read_group}
 use Rattle.fluent_check.specs.Looks.{found_in_looks}
-use Rattle.fluent_check.specs.ReadFiles.{file_view, files_read}
-use Rattle.fluent_check.specs.Unreadable.{unreadable}
+use Rattle.fluent_sources.specs.ReadFiles.{file_view, files_read}
+use Rattle.fluent_sources.specs.Unreadable.{unreadable}
 use Rattle.fluent_check.proofs.FaultlessGroups.{faultless_by}
 use Rattle.fluent_check.proofs.checking.findings.Goals as goal
 

@@ -3,7 +3,7 @@ use Rattle.fluent_places.specs.Asked.{texts}
 use Rattle.fluent_places.specs.Clean.{names_of}
 use Rattle.fluent_check.specs.Bundles.{bundle_view}
 use Rattle.fluent_check.specs.Patterns.{called_in}
-use Rattle.fluent_check.specs.Standing.{standing_view}
+use Rattle.fluent_sources.specs.Standing.{standing_view}
 use Rattle.fluent_check.proofs.patterns.add_called_in.Given as goal
 
 abbrev pub invariant-loop-standing : goal.invariant-loop-standing

@@ -1,7 +1,7 @@
 use Rattle.std.proofs.Common.{◌≡◌, ◌++◌, drop, map}
 use Rattle.fluent_patterns.specs.Found.{found_in}
 use Rattle.fluent_check.specs.Patterns.{against_view, found_in_patterns}
-use Rattle.fluent_check.specs.Standing.{standing_view}
+use Rattle.fluent_sources.specs.Standing.{standing_view}
 use Rattle.fluent_check.proofs.patterns.add_patterns.Given as goal
 
 abbrev pub invariant-loop-standing : goal.invariant-loop-standing

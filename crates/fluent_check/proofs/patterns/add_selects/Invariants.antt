@@ -4,7 +4,7 @@ use Rattle.fluent_patterns.specs.CategoryView.{categories_view}
 use Rattle.fluent_patterns.specs.Found.{found_in}
 use Rattle.fluent_check.specs.Bundles.{bundle_view}
 use Rattle.fluent_check.specs.Patterns.{found_selects}
-use Rattle.fluent_check.specs.Standing.{standing_view}
+use Rattle.fluent_sources.specs.Standing.{standing_view}
 use Rattle.fluent_check.proofs.patterns.add_selects.Given as goal
 
 abbrev pub invariant-loop-standing : goal.invariant-loop-standing

@@ -3,8 +3,8 @@ use Rattle.std.proofs.lemmas.List.{append-nil, at_drop_all, at_drop_more}
 use Rattle.fluent_places.specs.Clean.{names_of, views}
 use Rattle.fluent_check.specs.Bundles.{bundle_view}
 use Rattle.fluent_check.specs.Places.{first_places, keys_of, place_of}
-use Rattle.fluent_check.specs.Standing.{standing_view, standings}
-use Rattle.fluent_check.specs.declared.standing.Standing.{Standing}
+use Rattle.fluent_sources.specs.Standing.{standing_view, standings}
+use Rattle.fluent_sources.specs.declared.standing.Standing.{Standing}
 use Rattle.fluent_check.proofs.places.places_of.Goals as goal
 
 pub loop-standing-init : goal.loop-standing-init

@@ -2,7 +2,7 @@ use Rattle.std.proofs.Common.{◌≡◌, ◌++◌, drop, map}
 use Rattle.fluent_places.specs.Clean.{names_of}
 use Rattle.fluent_check.specs.Bundles.{bundle_view}
 use Rattle.fluent_check.specs.Places.{first_places, keys_of, place_of, places_of}
-use Rattle.fluent_check.specs.Standing.{standing_view, standings}
+use Rattle.fluent_sources.specs.Standing.{standing_view, standings}
 use Rattle.fluent_check.proofs.places.places_of.Given as goal
 
 abbrev pub invariant-loop-standing : goal.invariant-loop-standing

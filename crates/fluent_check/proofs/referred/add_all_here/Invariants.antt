@@ -1,7 +1,7 @@
 use Rattle.std.proofs.Common.{◌≡◌, ◌++◌, drop, map}
 use Rattle.fluent_patterns.specs.Found.{found_in}
 use Rattle.fluent_check.specs.Differences.{all_here, edition_view}
-use Rattle.fluent_check.specs.Standing.{standing_view}
+use Rattle.fluent_sources.specs.Standing.{standing_view}
 use Rattle.fluent_check.proofs.referred.add_all_here.Given as goal
 
 abbrev pub invariant-loop-standing : goal.invariant-loop-standing

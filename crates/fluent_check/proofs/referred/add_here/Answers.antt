@@ -4,7 +4,7 @@ use Rattle.fluent_patterns.specs.Found.{AddsFound, Flaw, flaw_view}
 use Rattle.fluent_check.specs.Alone.{Side, side_view, unreferenced}
 use Rattle.fluent_check.specs.Differences.{compared, edition_view, side_of}
 use Rattle.fluent_check.specs.Places.{place_of}
-use Rattle.fluent_check.specs.Standing.{flaws_at, standing_view}
+use Rattle.fluent_sources.specs.Standing.{flaws_at, standing_view}
 use Rattle.fluent_check.proofs.referred.add_here.Goals as goal
 
 pub returns : goal.returns

@@ -1,9 +1,9 @@
 use Rattle.std.proofs.Common.{Ok, Err, IfOk, IsTrue, refl}
 use Rattle.std.specs.declared.result.Result.{Result}
 use Rattle.fluent_check.specs.Faultless.{AreFaultlessBy, tag_of}
-use Rattle.fluent_check.specs.Groups.{read_group}
+use Rattle.fluent_sources.specs.Groups.{read_group}
 use Rattle.fluent_check.specs.Looks.{IsFound}
-use Rattle.fluent_check.specs.Reading.{entries_read}
+use Rattle.fluent_sources.specs.Reading.{entries_read}
 use Rattle.fluent_check.specs.declared.checking.Settings.{Settings}
 use Rattle.fluent_cli.specs.Checked.{FindsIn}
 use Rattle.fluent_cli.proofs.check.found_in.Goals as goal

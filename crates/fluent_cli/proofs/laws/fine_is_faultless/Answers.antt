@@ -1,7 +1,7 @@
 use Rattle.std.proofs.Common.{◌∙◌, sym, subst}
 use Rattle.std.specs.Prelude.{is_some}
 use Rattle.fluent_check.specs.Faultless.{AreFaultlessBy, tag_of}
-use Rattle.fluent_check.specs.Reading.{entries_read}
+use Rattle.fluent_sources.specs.Reading.{entries_read}
 use Rattle.fluent_cli_words.specs.declared.request.Request.TheVariants as request
 use Rattle.fluent_cli.specs.Checked.{grouping_of, status_by}
 use Rattle.fluent_cli.specs.Clean.{IsFaultless, entries_in}

@@ -1,5 +1,5 @@
 use Rattle.std.proofs.Common.{take}
-use Rattle.fluent_check.specs.Reading.{AreRead}
+use Rattle.fluent_sources.specs.Reading.{AreRead}
 use Rattle.fluent_cli.specs.Files.{reads_of, unread_in}
 use Rattle.fluent_cli.specs.Inside.Reading.{AddsUnread}
 use Rattle.fluent_cli.proofs.reading.read_files.Given as goal

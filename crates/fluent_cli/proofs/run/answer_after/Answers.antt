@@ -1,7 +1,7 @@
 use Rattle.std.proofs.Common.{◌≡◌, ◌∙◌, ◌==◌, ◌++◌, ap, map, refl, rules, string_bytes, sym}
 use Rattle.std.proofs.lemmas.List.{length-map}
-use Rattle.fluent_check.specs.Files.{mark_lines}
-use Rattle.fluent_check.specs.Reading.{read_view}
+use Rattle.fluent_sources.specs.Files.{mark_lines}
+use Rattle.fluent_sources.specs.Reading.{read_view}
 use Rattle.fluent_cli_report.specs.Unread.{unread_lines, unread_view, unread_views}
 use Rattle.fluent_cli.specs.Inputs.{texts_in}
 use Rattle.fluent_cli.specs.Runs.{status_by_whole}

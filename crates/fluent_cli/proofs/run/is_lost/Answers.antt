@@ -1,6 +1,6 @@
 use Rattle.std.proofs.Common.{◌≡◌, ◌∙◌, ◌==◌, ap, ap₂, length, sym}
 use Rattle.std.proofs.lemmas.List.{length-map}
-use Rattle.fluent_check.specs.Reading.{read_view, texts_read}
+use Rattle.fluent_sources.specs.Reading.{read_view, texts_read}
 use Rattle.fluent_cli_report.specs.Unread.{unread_view, unread_views}
 use Rattle.fluent_cli.specs.Runs.{is_lost_by, needs_file}
 use Rattle.fluent_cli.proofs.run.is_lost.Goals as goal

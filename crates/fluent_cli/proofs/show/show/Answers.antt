@@ -2,7 +2,7 @@ use Rattle.std.proofs.Common.{◌≡◌, ◌∙◌, ◌++◌, ap, map, rules, st
 use Rattle.fluent_places.specs.Asked.{texts}
 use Rattle.fluent_fallback.specs.Chain.{bundles_of}
 use Rattle.fluent_resolver_state.specs.Status.{reported}
-use Rattle.fluent_check.specs.Reading.{entries_read}
+use Rattle.fluent_sources.specs.Reading.{entries_read}
 use Rattle.fluent_check.specs.Bundles.{bundle_view, resource_bundle}
 use Rattle.fluent_cli.specs.Shown.{ShowsBy, bundles_for, is_there, said_of, shown_by}
 use Rattle.fluent_cli.proofs.Loaded.{each_loaded}

@@ -1,5 +1,5 @@
 use Rattle.std.proofs.Common.{◌≡◌, map, take}
-use Rattle.fluent_check.specs.Reading.{read_view}
+use Rattle.fluent_sources.specs.Reading.{read_view}
 use Rattle.fluent_cli_report.specs.Pages.{page_views, pages_of}
 use Rattle.fluent_cli_report.proofs.pages.pages_of.Given as goal
 

@@ -1,6 +1,6 @@
 use Rattle.std.proofs.Common.{◌≡◌, map, take}
-use Rattle.fluent_check.specs.Causes.{folded_view}
-use Rattle.fluent_check.specs.Lined.{lined_views}
+use Rattle.fluent_sources.specs.Causes.{folded_view}
+use Rattle.fluent_sources.specs.Lined.{lined_views}
 use Rattle.fluent_cli_report.specs.Kept.{row_views}
 use Rattle.fluent_cli_report.specs.Rows.{folded_row}
 use Rattle.fluent_cli_report.proofs.rows.folded_rows.Given as goal

@@ -1,7 +1,7 @@
 use Rattle.std.proofs.Common.{◌≡◌, ◌∙◌, true, false, bytes_eq, string_bytes, refl, sym, ap}
 use Rattle.std.specs.List.{list_any}
 use Rattle.fluent_patterns.specs.Found.{found_view}
-use Rattle.fluent_check.specs.Lined.{lined_views}
+use Rattle.fluent_sources.specs.Lined.{lined_views}
 use Rattle.fluent_cli_report.specs.Rows.{line_text, row_of}
 use Rattle.fluent_cli_report.proofs.Once.{kept_again, kept_new}
 use Rattle.fluent_cli_report.proofs.rows.keep.Goals as goal

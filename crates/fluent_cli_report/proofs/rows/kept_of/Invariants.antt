@@ -1,6 +1,6 @@
 use Rattle.std.proofs.Common.{◌≡◌, ◌++◌, drop, map, string_bytes}
 use Rattle.fluent_patterns.specs.Found.{found_in, found_view}
-use Rattle.fluent_check.specs.Lined.{lined_views}
+use Rattle.fluent_sources.specs.Lined.{lined_views}
 use Rattle.fluent_cli_report.specs.Rows.{kept, kept_after}
 use Rattle.fluent_cli_report.proofs.rows.kept_of.Given as goal
 

@@ -4,7 +4,7 @@ use Rattle.std.specs.Cow.{cow_str_bytes}
 use Rattle.fluent_ast.specs.Tree.{Text, Entry}
 use Rattle.fluent_semantics.specs.Bundle.{Bundle}
 use Rattle.fluent_semantics.specs.Value.{Plurals}
-use Rattle.fluent_bundle.specs.BundleView.{entries_of}
+use Rattle.fluent_resource.specs.ResourceView.{entries_of}
 use Rattle.fluent_fallback.specs.Chain.{chain_value}
 use Rattle.fluent_show_cli.specs.Program.{line, Asked, Run, after_errors, arguments_of, both_adding_errors, bundle_of, run_both, run_chain}
 use Rattle.fluent_show_cli.specs.Inside.WordsView.{asked_view}

@@ -4,7 +4,7 @@ use Rattle.std.specs.Cow.{cow_str_bytes}
 use Rattle.fluent_ast.specs.Tree.{Text, Entry}
 use Rattle.fluent_syntax.specs.Chunks.{entries}
 use Rattle.fluent_semantics.specs.Value.{Plurals}
-use Rattle.fluent_bundle.specs.BundleView.{entries_of}
+use Rattle.fluent_resource.specs.ResourceView.{entries_of}
 use Rattle.fluent_show_cli.specs.Program.{line, Asked, Run, after_errors, both_junk_errors, run_both, run_fallback}
 use Rattle.fluent_show_cli.specs.Inside.WordsView.{asked_view}
 use Rattle.fluent_show_cli.specs.Inside.PluralsView.{plurals_view}

@@ -8,7 +8,8 @@ use Rattle.fluent_semantics.specs.Bundle.{Bundle}
 use Rattle.fluent_semantics.specs.Errors.{Error}
 use Rattle.fluent_semantics.specs.Value.{Plurals}
 use Rattle.fluent_resolver_state.specs.Status.{reported}
-use Rattle.fluent_bundle.specs.BundleView.{entries_of, value_at}
+use Rattle.fluent_bundle.specs.BundleView.{value_at}
+use Rattle.fluent_resource.specs.ResourceView.{entries_of}
 use Rattle.fluent_show_cli.specs.Program.{Asked, Run, adding_errors, after_errors, bundle_of, in_pieces, junk_errors, run_alone, run_entries, run_value}
 use Rattle.fluent_show_cli.specs.Inside.WordsView.{asked_view}
 use Rattle.fluent_show_cli.specs.Inside.PluralsView.{plurals_view}

@@ -1,7 +1,7 @@
 use Rattle.std.proofs.Common.{◌∙◌, ap, is_some, map, string_bytes, sym, subst}
 use Rattle.fluent_ast.specs.Tree.{Text}
 use Rattle.fluent_semantics.specs.Bundle.{Bundle}
-use Rattle.fluent_bundle.specs.BundleView.{entries_of, source_in}
+use Rattle.fluent_resource.specs.ResourceView.{entries_of, source_in}
 use Rattle.fluent_c_handles.specs.Answers.{bundle_view, declared_view}
 use Rattle.fluent_c_handles.specs.Inside.Resources.{AllFrom, AreAmong, given}
 use Rattle.fluent_c_handles.proofs.From.{overridden_from}

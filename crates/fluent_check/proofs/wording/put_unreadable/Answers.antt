@@ -1,4 +1,0 @@
-use Rattle.fluent_check.proofs.wording.put_unreadable.Goals as goal
-
-pub returns : goal.returns
-returns c = rw (c.position_at-line.ensures.line, c.text.ensures) at c.put_unread.ensures

@@ -1,0 +1,9 @@
+pub mod Added
+pub mod EntrySites
+pub mod Folding
+pub mod Inserted
+pub mod ReadTexts
+pub mod RepeatedNames
+pub mod Split
+pub mod Stepped
+pub mod TakenIds

@@ -1,0 +1,26 @@
+//! The FTL files of a language as they are read: where messages and terms stand in them, what is wrong in each by itself, and
+//! findings in words.
+#![tactic(auto)]
+
+mod all;
+pub mod causes;
+mod faulty;
+pub mod files;
+pub mod groups;
+pub mod laws;
+pub mod lines;
+pub mod positions;
+pub mod repeated;
+pub mod sites;
+pub mod source;
+pub mod standing;
+pub mod taken;
+pub mod unreadable;
+pub mod wording;
+
+pub use all::AllFiles;
+pub use causes::{Folded, fold};
+pub use faulty::faults;
+pub use fluent_patterns::{Finding, Problem, Spot};
+pub use groups::Grouping;
+pub use source::{Source, Sources};
