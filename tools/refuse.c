@@ -43,6 +43,12 @@ static int is_refused(void)
 
 #ifdef CHECKED
 
+/* Each fault ends the program at once, and a refusal is no fault. */
+const char *__asan_default_options(void)
+{
+    return "abort_on_error=1:allocator_may_return_null=1:detect_leaks=0:detect_stack_use_after_return=1";
+}
+
 void *___interceptor_malloc(size_t);
 void *___interceptor_realloc(void *, size_t);
 

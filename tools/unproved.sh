@@ -2,7 +2,7 @@
 # How ./fluent_show and ./fluent run their program without its proof, for a shell to read after tools/proved.sh.
 # 'rt try' compiles it, with checks that stop it at a fault, and keeps nothing. So it is given a long comment to read, and
 # while it reads, the program gets a second name. Under that it is kept in out/unproved, for all runs of the same sources.
-# tools/tests does so with programs of tests, and keeps them in out/tests.
+# tools/tests catches the module of a program of tests in the same way, compiles that once more, and keeps it in out/tests.
 
 # A sum of what the program of a crate is compiled from: its sources, and the toolchain.
 sum_of_unproved() {
@@ -19,12 +19,13 @@ keep() {
     mkdir -p "${2%/*}" && cp "$1" "$2.$$" && mv "$2.$$" "$2" && printf '%s\n' "$3$(sha256sum < "$2")" > "$2.sum"
 }
 
-# Names what can be run below the folder $1/try also $1/program, until that folder is gone.
+# Names what can be run below the folder $1/try also $1/program, and the module that it is made of $1/module.bc, until that folder is gone.
 catch_program() {
     local it
     shopt -s globstar nullglob
     while [ -d "$1/try" ]; do
         for it in "$1/try"/**; do
+            if [ "${it##*/}" = module.bc ]; then ln -f "$it" "$1/"; fi
             if [ -f "$it" ] && [ -x "$it" ]; then ln -f "$it" "$1/program"; fi
         done
         sleep 0.02
@@ -83,23 +84,36 @@ words_of() {
     cat "tests/$1/args" 2> /dev/null
 }
 
-# Compiles the crate of tests $1 of the repository $2/copy, as $2/program, with tools/refuse.c. 'rt try' runs it too, on a long comment,
-# and where it ended before the program was caught, once more.
-compile_tests() {
-    local tried words
-    mapfile -t words < <(words_of "$1")
-    mkdir "$2/copy/crates/$1/c" && cp tools/refuse.c "$2/copy/crates/$1/c/" || return 1
-    for tried in 1 2 3; do
-        mkdir "$2/try" || return 1
-        catch_program "$2" &
-        yes '# a comment' | head -c 2000000 |
-            (cd "$2/copy/crates/$1" && RT_ALLOW_C=$1 CFLAGS=-DCHECKED TMPDIR=$2/try exec rt try "${words[@]}") > "$2/said" 2>&1
-        rm -rf "$2/try"
-        wait
-        if [ -x "$2/program" ] || ! grep -Eq '^(test result: |run=(ended|no-answer) )' "$2/said"; then break; fi
-        echo "$1: the program of try $tried wasn't caught"
+# Compiles $1/module.bc as $1/program, with the checks of 'rt try' and tools/refuse.c. 'rt try' itself does so without optimizing, where
+# fixtures and their sweep would take twenty times as long.
+compile_module() {
+    local kit word words=()
+    kit=$(dirname "$(dirname "$(realpath "$(command -v rt)")")")
+    for word in no-trap-after-noreturn trap-unreachable no-x86-call-frame-opt disable-machine-licm disable-postra-machine-licm \
+        sink-common-insts=false; do
+        words+=(-mllvm "-$word")
     done
-    [ -x "$2/program" ] || { cat "$2/said" && echo "$1 can't be compiled" && false; }
+    "$kit/toolchain/bin/clang" --no-default-config --target=x86_64-unknown-linux-gnu -march=x86-64 "${words[@]}" -O1 -fPIE \
+        -fsanitize=address -ffunction-sections -fdata-sections -Werror -c -x ir "$1/module.bc" -o "$1/module.o" &&
+        "${CC:-cc}" -O2 -DCHECKED -o "$1/program" "$1/module.o" tools/refuse.c -Wl,--gc-sections \
+            -Wl,--whole-archive "$kit/c/asan.a" -Wl,--no-whole-archive "$kit"/c/lib{os,libc}_c.a -lm
+}
+
+# Compiles the crate of tests $1 of the repository $2/copy, as $2/program: 'rt try' makes its module, and ends where it would run it.
+compile_tests() {
+    local words tried
+    mapfile -t words < <(words_of "$1")
+    mkdir "$2/try" || return 1
+    catch_program "$2" &
+    (cd "$2/copy/crates/$1" && TMPDIR=$2/try exec rt try "${words[@]}") > "$2/said" 2>&1 < /dev/null &
+    tried=$!
+    while kill -0 "$tried" 2> /dev/null && [ ! -x "$2/program" ]; do sleep 0.1; done
+    kill "$tried" 2> /dev/null
+    wait "$tried"
+    rm -rf "$2/try"
+    wait
+    rm -f "$2/program"
+    [ -f "$2/module.bc" ] && compile_module "$2" >> "$2/said" 2>&1 || { cat "$2/said" && echo "$1 can't be compiled" && false; }
 }
 
 # Puts the crate of tests $1, and those that it stands on, into a repository of their own, $2. It runs in the top folder, as the rest.
@@ -113,6 +127,6 @@ copy_tests() {
 # Compiles the crate of tests $1 of the repository $2/copy, where it isn't kept as out/tests/$1.
 keep_tests() {
     local sum kept=$PWD/out/tests/$1
-    sum=$({ sum_of_unproved "$2/copy" "$1" && cat tools/refuse.c; } | sha256sum)
+    sum=$({ sum_of_unproved "$2/copy" "$1" && cat tools/refuse.c tools/unproved.sh; } | sha256sum)
     is_kept "$kept" "$sum" || { compile_tests "$1" "$2" && keep "$2/program" "$kept" "$sum"; }
 }

@@ -1,4 +1,4 @@
-"""Asks the rows of crates/test_fixtures/data, which are written by hand (FIXTURES.md there), of the model."""
+"""Asks the rows of tests/test_fixtures/data, which are written by hand (FIXTURES.md there), of the model."""
 import os
 import re
 

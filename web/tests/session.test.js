@@ -10,7 +10,7 @@ const {outline} = await load("ftl.js");
 const {Engine} = await load("engine.js");
 const {FluentBundle, FluentResource} = await load("fluent/src/index.js");
 
-const FIXTURES = new URL("../../crates/test_fixtures/data/", import.meta.url);
+const FIXTURES = new URL("../../tests/test_fixtures/data/", import.meta.url);
 
 const VIEW = {isolate: false, values: {}, filter: "", from: 0, count: 50};
 

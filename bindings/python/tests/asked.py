@@ -4,7 +4,7 @@ import re
 from . import TOP
 from .fixtures import Reader
 
-DATA = TOP / "crates/test_fixtures/data"
+DATA = TOP / "tests/test_fixtures/data"
 NUMBER = re.compile(r"[+-]?(?:[0-9]+(?:\.[0-9]*)?|\.[0-9]+)")
 
 # How many rows are asked at least, and how many reports: with fewer, some would be passed over that were asked before.

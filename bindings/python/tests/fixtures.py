@@ -1,4 +1,4 @@
-"""Reads fixtures, the files of crates/test_fixtures/data: FIXTURES.md beside that folder says what stands in them."""
+"""Reads fixtures, the files of tests/test_fixtures/data: FIXTURES.md beside that folder says what stands in them."""
 import re
 from dataclasses import dataclass, field, replace
 from typing import Optional

@@ -1,3 +1,4 @@
 pub mod Alone
 pub mod Composed
+pub mod Fixtures
 pub mod Lines

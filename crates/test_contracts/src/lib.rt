@@ -6,6 +6,7 @@ pub mod alone;
 pub mod composing;
 pub mod equality;
 pub mod failing;
+pub mod fixtures;
 pub mod functions;
 pub mod laws;
 pub mod own;

@@ -1,16 +1,17 @@
 //! The bundles of a fixture.
 use crate::fixture::{Described, Fixture, Part};
-use crate::objects::{Formatter, Function, Plurals, Star, Upper};
 use crate::report::Report;
-use crate::settings::{Answer, Rules, Settings};
+use crate::settings::{Rules, Settings};
 use fluent_bundle::ast::Pattern;
 use fluent_bundle::bundle::AddFault;
 use fluent_bundle::{FluentBundle, FluentError, FluentResource, ParserError, TryNewFault};
 use fluent_plural_rules::{RuleFault, RuleTexts, cldr_plurals, rules_for};
 use std::alloc::{AllocError, Global};
+use test_contracts::fixtures::{Answer, Plurals, Shows, Star};
+use test_contracts::own::Upper;
 
 /// A bundle with the objects of a fixture, which outlives the bundle's sources.
-pub type Bundle<'r, 's, 'f> = FluentBundle<'r, 's, Plurals, Star, Function<'f>, Formatter, Upper>;
+pub type Bundle<'r, 's, 'f> = FluentBundle<'r, 's, Plurals, Star, Answer<'f>, Shows, Upper>;
 
 // ---- resources
 
@@ -105,7 +106,7 @@ fn plurals_or_english(
 pub fn set(bundle: &mut Bundle<'_, '_, '_>, settings: &Settings<'_>) -> bool {
     bundle.set_use_isolating(settings.is_isolating);
     bundle.set_transform(if settings.is_upper { Some(Upper) } else { None });
-    bundle.set_formatter(settings.formatter.map(Formatter));
+    bundle.set_formatter(settings.formatter);
     match settings.limit {
         Some(limit) => bundle.set_placeable_limit(limit),
         None => true,
@@ -124,7 +125,7 @@ fn add_functions<'s, 'f: 's>(
     }
     for index in settings.functions.0..settings.functions.1 {
         if let Some((id, answer)) = functions.get(index) {
-            put_left(left, bundle.add_function(*id, Function(*answer)))?;
+            put_left(left, bundle.add_function(*id, *answer))?;
         }
     }
     Ok(())

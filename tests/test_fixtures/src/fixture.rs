@@ -1,6 +1,7 @@
 //! What a fixture says.
-use crate::settings::{Answer, Settings};
+use crate::settings::Settings;
 use std::alloc::{AllocError, Global};
+use test_contracts::fixtures::Answer;
 
 /// A bundle of a fixture.
 #[derive(Clone, Copy, Drop)]

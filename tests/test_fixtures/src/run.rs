@@ -2,7 +2,6 @@
 use crate::bundles::{Bundle, all, pattern_in, read_all};
 use crate::damaged;
 use crate::fixture::{Fixture, Row, Told, Wanted};
-use crate::objects::{Formatter, Function, Plurals, Star, Upper};
 use crate::reader::read;
 use crate::report::Report;
 use crate::values::{Args, arguments};
@@ -10,9 +9,11 @@ use crate::ways::{are_told, call_by_id, call_for, finds_nothing, hold, stops_aft
 use fluent_bundle::ast::Pattern;
 use fluent_fallback::{BundleRef, Chain};
 use std::alloc::{AllocError, Global};
+use test_contracts::fixtures::{Answer, Plurals, Shows, Star};
+use test_contracts::own::Upper;
 
 /// A bundle of a chain.
-type Linked<'b, 'r, 's> = BundleRef<'b, 'r, 's, Plurals, Star, Function<'s>, Formatter, Upper>;
+type Linked<'b, 'r, 's> = BundleRef<'b, 'r, 's, Plurals, Star, Answer<'s>, Shows, Upper>;
 
 /// The first of these bundles that has the value or the attribute of a row, and its pattern there.
 fn first_with<'b, 'r, 's>(

@@ -1,9 +1,9 @@
 //! The arguments of a call.
-use crate::objects::Star;
 use crate::texts::{first_word, unescaped};
 use fluent_bundle::{FluentArgs, FluentValue, MergeArgs};
 use std::alloc::{AllocError, Global};
 use std::borrow::CowStr;
+use test_contracts::fixtures::Star;
 
 /// Arguments of a fixture.
 pub type Args<'s> = FluentArgs<'s, Star>;

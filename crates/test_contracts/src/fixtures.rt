@@ -1,12 +1,11 @@
-//! What the fixtures' application hands to its bundles.
+//! What the application of the fixtures hands to its bundles, beside a transform of `own`.
 ghost use Rattle.std.specs.Prelude.{◌≡◌};
 ghost use Rattle.fluent_values.specs.View.{value_view};
-ghost use Rattle.test_fixtures.specs.Objects.{kind_word};
+ghost use Rattle.test_contracts.specs.Fixtures.{kind_word};
 
-use crate::settings::{Answer, Shows};
 use fluent_bundle::{
     FluentArgs, FluentFormatter, FluentFunction, FluentType, FluentValue, MemoizerKind,
-    PluralCategory, PluralOperands, PluralRuleType, Transform,
+    PluralCategory, PluralOperands, PluralRuleType,
 };
 use fluent_intl::EnglishPlurals;
 use fluent_plural_rules::RuleTexts;
@@ -43,20 +42,35 @@ impl FluentType for Star {
 
 // ---- functions
 
-/// A function of a fixture.
+/// A function by what it answers, whatever it is asked or of what it is asked.
 #[derive(Clone, Copy, Drop)]
-pub struct Function<'t>(pub Answer<'t>);
+pub enum Answer<'t> {
+    Nothing,
+    Fault,
+    /// A custom value.
+    Star,
+    One,
+    Text(&'t str),
+    /// The first positional value, or an error where there is none.
+    First,
+    /// The second one.
+    Second,
+    /// The named argument `x`, or an error where there is none.
+    Named,
+    /// The length of its one text in bytes, or an error where it is asked anything else.
+    Length,
+}
 
-impl<'t> FluentFunction<Star> for Function<'t> {
+impl<'t> FluentFunction<Star> for Answer<'t> {
     ghost use Rattle.std.specs.Prelude.{[], None, codes, pos, slice_get, unwrap_or};
     ghost use Rattle.fluent_intl.specs.Decimal.{whole};
     ghost use Rattle.fluent_intl.specs.Number.{number_with};
     ghost use Rattle.fluent_semantics.specs.Arguments.{get};
     ghost use Rattle.fluent_semantics.specs.Value.{text_value, number_value, custom_value, no_value, error_value};
-    ghost use Rattle.test_fixtures.specs.Objects.{length_of};
-    ghost use Rattle.test_fixtures.specs.declared.settings.Answer.TheVariants as own;
+    ghost use Rattle.test_contracts.specs.Fixtures.{length_of};
+    ghost use Rattle.test_contracts.specs.declared.fixtures.Answer.TheVariants as own;
 
-    ghost answer = { λ f positional named. elim f.0 [
+    ghost answer = { λ f positional named. elim f [
       | own.Nothing ↦ no_value
       | own.Fault ↦ error_value
       | own.Star ↦ custom_value []
@@ -74,7 +88,7 @@ impl<'t> FluentFunction<Star> for Function<'t> {
         positional: &[FluentValue<'a, Star>],
         arguments: &FluentArgs<'a, Star>,
     ) -> Result<FluentValue<'a, Star>, AllocError> {
-        match &self.0 {
+        match self {
             Answer::Nothing => Ok(FluentValue::None),
             Answer::Fault => Ok(FluentValue::Error),
             Answer::Star => Ok(FluentValue::Custom(Star)),
@@ -107,9 +121,14 @@ impl<'t> FluentFunction<Star> for Function<'t> {
 
 // ---- formatters
 
-/// A formatter of a fixture.
+/// A formatter by what it shows.
 #[derive(Clone, Copy, Drop)]
-pub struct Formatter(pub Shows);
+pub enum Shows {
+    /// Each value by its kind.
+    Kinds,
+    /// Each text between brackets.
+    Brackets,
+}
 
 /// The word for the kind of a value.
 fn kind_of(value: &FluentValue<'_, Star>) -> &'static str
@@ -124,12 +143,12 @@ fn kind_of(value: &FluentValue<'_, Star>) -> &'static str
     }
 }
 
-impl FluentFormatter<Star, Plurals> for Formatter {
+impl FluentFormatter<Star, Plurals> for Shows {
     ghost use Rattle.std.specs.Prelude.{Some};
-    ghost use Rattle.test_fixtures.specs.Objects.{kind_word, in_brackets};
-    ghost use Rattle.test_fixtures.specs.declared.settings.Shows.TheVariants as own;
+    ghost use Rattle.test_contracts.specs.Fixtures.{kind_word, in_brackets};
+    ghost use Rattle.test_contracts.specs.declared.fixtures.Shows.TheVariants as own;
 
-    ghost formatted = { λ f v _. elim f.0 [
+    ghost formatted = { λ f v _. elim f [
       | own.Kinds ↦ Some (kind_word v)
       | own.Brackets ↦ in_brackets v
     ] };
@@ -140,7 +159,7 @@ impl FluentFormatter<Star, Plurals> for Formatter {
         value: &FluentValue<'a, Star>,
         _intls: &Plurals,
     ) -> Result<Option<String>, AllocError> {
-        match &self.0 {
+        match self {
             Shows::Kinds => Ok(Some(String::from_str(alloc, kind_of(value))?)),
             Shows::Brackets => match value {
                 FluentValue::String(text) => {
@@ -152,22 +171,6 @@ impl FluentFormatter<Star, Plurals> for Formatter {
                 _ => Ok(None),
             },
         }
-    }
-}
-
-// ---- transforms
-
-/// Makes ASCII letters upper case.
-#[derive(Clone, Copy, Drop)]
-pub struct Upper;
-
-impl Transform for Upper {
-    ghost use Rattle.std.specs.Str.{str_to_ascii_uppercase};
-
-    ghost changed = { λ _ t. str_to_ascii_uppercase t };
-
-    fn transform(&self, alloc: Global, text: &str) -> Result<String, AllocError> {
-        text.to_ascii_uppercase(alloc)
     }
 }
 
@@ -183,7 +186,7 @@ pub enum Plurals {
 impl MemoizerKind for Plurals {
     ghost use Rattle.fluent_intl.specs.Plurals.{english};
     ghost use Rattle.fluent_plural_rules.specs.RuleTexts.{category_of};
-    ghost use Rattle.test_fixtures.specs.declared.objects.Plurals.TheVariants as own;
+    ghost use Rattle.test_contracts.specs.declared.fixtures.Plurals.TheVariants as own;
 
     ghost category = { λ p. elim p [ own.English ↦ english | own.Rules texts ↦ category_of texts ] };
 

@@ -1,26 +1,7 @@
 //! What is set for bundles.
+use test_contracts::fixtures::{Answer, Shows};
 
-// ---- what an application hands over
-
-/// A function by what it answers, whatever it is asked or of what it is asked.
-#[derive(Clone, Copy, Drop)]
-pub enum Answer<'t> {
-    Nothing,
-    Fault,
-    /// A custom value.
-    Star,
-    One,
-    Text(&'t str),
-    /// The first positional value, or an error where there is none.
-    First,
-    /// The second one.
-    Second,
-    /// The named argument `x`, or an error where there is none.
-    Named,
-    /// The length of its one text in bytes, or an error where it is asked anything else.
-    Length,
-}
-
+/// Functions by their words.
 const ANSWERS: &[(&str, Answer<'static>)] = &[
     ("none", Answer::Nothing),
     ("error", Answer::Fault),
@@ -31,15 +12,6 @@ const ANSWERS: &[(&str, Answer<'static>)] = &[
     ("named", Answer::Named),
     ("length", Answer::Length),
 ];
-
-/// A formatter.
-#[derive(Clone, Copy, Drop)]
-pub enum Shows {
-    /// Each value by its kind.
-    Kinds,
-    /// Each text between brackets.
-    Brackets,
-}
 
 // ---- settings
 

@@ -2,14 +2,12 @@
 //!
 //! A fixture that is wrong on purpose has the report that must come beside it, as `damaged.report` of `damaged.ftl`,
 //! and isn't counted.
-#![tactic(auto)]
 
 mod bundles;
 mod chunks;
 mod damaged;
 mod fixture;
 mod lines;
-mod objects;
 mod reader;
 mod report;
 mod run;
