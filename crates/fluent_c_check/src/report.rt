@@ -2,12 +2,12 @@
 ghost use Rattle.std.specs.Prelude.{◌≡◌, [], IfOk};
 ghost use Rattle.fluent_cli_report.specs.Reported.{manner_of};
 ghost use Rattle.fluent_c_check.specs.Inside.Handed.{AreReadFrom, TellsOf, reads_handed};
-ghost use Rattle.fluent_c_check.specs.Inside.Manner.{WritesAll, format_of, manner_in};
+ghost use Rattle.fluent_c_check.specs.Inside.Manner.{TellsAll, format_of, manner_in};
 
 use crate::found::{Inputs, found_in, inputs_of};
 use crate::handed::Handed;
 use fluent_check::Found;
-use fluent_cli_report::{Counts, Look, Outcome, ReportOptions, put_report};
+use fluent_cli_report::{Counts, Look, Outcome, ReportOptions, Written, write_report};
 use fluent_cli_words::Format;
 use std::alloc::{AllocError, Global};
 
@@ -45,31 +45,23 @@ fn options_of(as_json: bool) -> ReportOptions<'static>
     }
 }
 
-/// Writes what is found.
-fn put_found(
+/// What is written of what is found.
+fn written_of(
     alloc: Global,
     handed: &Handed<'_>,
     inputs: &Inputs<'_>,
     found: &Found<'_>,
     as_json: bool,
-    output: &mut String,
-) -> Result<Counts, AllocError>
+) -> Result<Written, AllocError>
     requires { AreReadFrom handed.now inputs.now }
-    ensures { IfOk result (WritesAll as_json (reads_handed handed.now) found.now output.old output.new) }
+    ensures { IfOk result (TellsAll as_json (reads_handed handed.now) found.now) }
 {
     let texts = inputs.texts(alloc)?;
     let outcome = Outcome {
         findings: found.findings.as_slice(),
         is_well: found.is_clean,
     };
-    put_report(
-        alloc,
-        texts.as_slice(),
-        &[],
-        &outcome,
-        &options_of(as_json),
-        output,
-    )
+    write_report(alloc, texts.as_slice(), &[], &outcome, &options_of(as_json))
 }
 
 /// Tells what is found in sources that are handed over.
@@ -82,11 +74,10 @@ pub(crate) fn report_of(
 {
     let inputs = inputs_of(alloc, handed)?;
     let found = found_in(alloc, handed, &inputs)?;
-    let mut text = String::new(alloc);
-    let counts = put_found(alloc, handed, &inputs, &found, as_json, &mut text)?;
+    let written = written_of(alloc, handed, &inputs, &found, as_json)?;
     Ok(Report {
-        text,
-        counts,
+        text: written.text,
+        counts: written.counts,
         is_clean: found.is_clean,
     })
 }

@@ -15,7 +15,8 @@ use Rattle.fluent_semantics.specs.Bundle as m
 use Rattle.fluent_semantics.specs.Bundle.{Bundle, a_message, a_term, a_function, number_builtin, message_target, term_target}
 use Rattle.fluent_answers.specs.Tables.{Table}
 use Rattle.fluent_places.specs.Asked.{AreAsked, AsksForAt, texts}
-use Rattle.fluent_places.specs.Clean.{AsksFor, IsAmong, Names, Place, itself, by_message, names_of, of_message, of_term, place_target}
+use Rattle.fluent_places.specs.Places.{Names, Place, names_of, of_message, of_term, place_target}
+use Rattle.fluent_places.specs.Needs.{AsksFor, IsAmong, itself, by_message}
 use Rattle.fluent_c_handles.specs.Calls.Finding.{ListsAsked, Rise, id_lines}
 use Rattle.fluent_c_handles.specs.Family.{Declares, answered_by, entry_at}
 use Rattle.fluent_c_handles.specs.Inside.Gathered.{HaveSame, texts_of}

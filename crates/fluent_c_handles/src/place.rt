@@ -1,6 +1,6 @@
 //! Where what a caller asks for stands.
 ghost use Rattle.std.specs.Prelude.{◌≡◌, IfSome, is_some};
-ghost use Rattle.fluent_places.specs.Clean.{place_view};
+ghost use Rattle.fluent_places.specs.Places.{place_view};
 ghost use Rattle.fluent_c_handles.specs.Answers.{bundle_view, found_at, stock_content, unanswered};
 ghost use Rattle.fluent_c_handles.specs.Calls.Finding.{place_at};
 

@@ -1,14 +1,14 @@
 //! The variables that a message asks for, a line each.
 ghost use Rattle.std.specs.Prelude.{IfOk, string_bytes};
 ghost use Rattle.fluent_places.specs.Asked.{texts};
-ghost use Rattle.fluent_places.specs.Clean.{names_of, place_view};
+ghost use Rattle.fluent_places.specs.Places.{names_of, place_view};
 ghost use Rattle.fluent_c_handles.specs.Answers.{stock_content, unanswered};
 ghost use Rattle.fluent_c_handles.specs.Calls.Finding.{ListsAsked, Rise};
 ghost use Rattle.fluent_c_handles.specs.Inside.Gathered.{HaveSame, texts_of};
 
 use crate::message_ids::lines;
 use crate::stock::Stock;
-use fluent_lint::{Place, variables};
+use fluent_places::{Place, variables_of};
 use std::alloc::{AllocError, Global};
 use std::collections::BTreeSet;
 
@@ -24,7 +24,7 @@ pub(crate) fn variable_lines<'r, 's: 'r>(
 ) -> Result<String, AllocError>
     ensures { IfOk result (λ t. ListsAsked (names_of (unanswered (stock_content stock.now))) (place_view place.now) (string_bytes t)) }
 {
-    let asked = variables(alloc, &stock.bundle, place)?;
+    let asked = variables_of(alloc, &stock.bundle, place)?;
     let names = set_of(alloc, asked.as_slice())?;
     lines(alloc, names)
 }

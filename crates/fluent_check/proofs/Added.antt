@@ -3,7 +3,7 @@ use Rattle.std.proofs.Common.{◌≡◌, ◌∙◌, List, [], ◌∷◌, ◌++�
 use Rattle.std.proofs.lemmas.List.{append_assoc}
 use Rattle.fluent_ast.specs.Tree.{Text}
 use Rattle.fluent_semantics.specs.Bundle.{Bundle, add_resource, after}
-use Rattle.fluent_places.specs.Clean.{places_in}
+use Rattle.fluent_places.specs.Places.{places_in}
 use Rattle.fluent_sources.specs.ReadFiles.{ReadFile, entries_in}
 use Rattle.fluent_sources.specs.Standing.{standings_in, standings_of}
 use Rattle.fluent_check.specs.Languages.{adding_all}

@@ -5,11 +5,11 @@ use Rattle.fluent_ast.specs.Tree.{Text, Entry}
 use Rattle.fluent_semantics.specs.Bundle.{Bundle}
 use Rattle.fluent_resource.specs.ResourceView.{entries_of, source_in}
 use Rattle.fluent_resource.specs.declared.resource.FluentResource.{FluentResource}
-use Rattle.fluent_places.specs.Clean as entries
-use Rattle.fluent_places.specs.Clean.{Place, Names, names_of}
+use Rattle.fluent_places.specs.Places as entries
+use Rattle.fluent_places.specs.Places.{Place, Names, names_of}
 use Rattle.fluent_patterns.specs.Marks.{marks}
 use Rattle.fluent_patterns.specs.declared.marks.Mark.{Mark}
-use Rattle.fluent_check.specs.Among.{is_at}
+use Rattle.fluent_differences.specs.Among.{is_at}
 use Rattle.fluent_check.specs.Called.{with_functions}
 use Rattle.fluent_check.specs.Faultless.{AreFaultless, called_by}
 use Rattle.fluent_check.specs.Inside.Faultless.{AreFaultlessFiles, calling}

@@ -5,7 +5,7 @@ use Rattle.std.specs.Option.{option_map}
 use Rattle.fluent_ast.specs.Tree.{Text}
 use Rattle.fluent_bundle.specs.declared.bundle.FluentBundle.{FluentBundle}
 use Rattle.fluent_places.specs.Asked.{AreAskedIn, IsAskedIn, list_of, texts}
-use Rattle.fluent_places.specs.Clean.{Place, Names, names_of}
+use Rattle.fluent_places.specs.Places.{Place, Names, names_of}
 use Rattle.fluent_places.specs.declared.asked.Asked.{Asked}
 use Rattle.fluent_plural_rules.specs.declared.rule_texts.RuleTexts.{RuleTexts}
 use Rattle.fluent_values.specs.declared.formatter.NoFormatter.{NoFormatter}

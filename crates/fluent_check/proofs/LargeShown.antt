@@ -5,11 +5,11 @@ use Rattle.std.specs.List.{AllByRecursion, cons_option, filter_map, list_any}
 use Rattle.std.specs.Option.{option_map}
 use Rattle.fluent_ast.specs.Tree.{Text}
 use Rattle.fluent_semantics.specs.Bundle.{Bundle, Target, unknown, without_value, found}
-use Rattle.fluent_places.specs.Clean.{Place, names_of, place_target, place_view}
+use Rattle.fluent_places.specs.Places.{Place, names_of, place_target, place_view}
 use Rattle.fluent_places.specs.PlaceView.{pattern_in}
-use Rattle.fluent_places.specs.declared.finding.Finding.{Finding}
-use Rattle.fluent_places.specs.declared.finding.Kind.{Kind}
-use Rattle.fluent_places.specs.declared.finding.Kind.TheVariants as kind
+use Rattle.fluent_clean.specs.declared.finding.Finding.{Finding}
+use Rattle.fluent_clean.specs.declared.finding.Kind.{Kind}
+use Rattle.fluent_clean.specs.declared.finding.Kind.TheVariants as kind
 use Rattle.fluent_patterns.specs.Found.{Problem}
 use Rattle.fluent_check.specs.Linted.{IsShownIfLarge, LargeErrorsAreShown}
 use Rattle.fluent_check.specs.Tried.{ReachesLimit, is_shown, is_shown_of, reaches_limit, tried_arguments}

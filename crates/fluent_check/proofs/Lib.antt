@@ -7,9 +7,7 @@ pub mod Editions
 pub mod FaultlessGroups
 pub mod LargeShown
 pub mod Looking
-pub mod Naming
 pub mod NoneFails
-pub mod PlaceTests
 pub mod PlacesOf
 pub mod Tries
 pub mod Walked

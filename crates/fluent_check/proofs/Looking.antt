@@ -5,7 +5,7 @@ use Rattle.std.proofs.lemmas.List.{append_assoc, append-nil, at_drop_more, lengt
 use Rattle.fluent_ast.specs.Tree.{Text}
 use Rattle.fluent_semantics.specs.Bundle.{Bundle}
 use Rattle.fluent_places.specs.Asked.{texts}
-use Rattle.fluent_places.specs.Clean.{Place, Names, names_of}
+use Rattle.fluent_places.specs.Places.{Place, Names, names_of}
 use Rattle.fluent_patterns.specs.Categories.{Categories}
 use Rattle.fluent_patterns.specs.Found.{Found, found_in}
 use Rattle.fluent_patterns.specs.Terms.{TellsAskedAt}
@@ -15,7 +15,8 @@ use Rattle.fluent_check.specs.Differences.{reference_names}
 use Rattle.fluent_sources.specs.Groups.{Group, groups_from, of_file}
 use Rattle.fluent_check.specs.Inside.Looks.{AddsDifferences, AddsLinted, AddsLooks, AddsPatterns}
 use Rattle.fluent_check.specs.Linted.{is_none}
-use Rattle.fluent_check.specs.Looks.{IsLook, Look, bundle_in, categories_if, found_ids, found_in_look, found_in_looks, named_in, none_listed, places_in, standings_loaded}
+use Rattle.fluent_sources.specs.Ids.{found_ids}
+use Rattle.fluent_check.specs.Looks.{IsLook, Look, bundle_in, categories_if, found_in_look, found_in_looks, named_in, none_listed, places_in, standings_loaded}
 use Rattle.fluent_check.specs.Patterns.{found_in_patterns, found_selects}
 use Rattle.fluent_check.specs.Places.{place_of}
 use Rattle.fluent_sources.specs.ReadFiles.{ReadFile}

@@ -4,10 +4,11 @@ use Rattle.std.proofs.Common.{◌≡◌, ◌∙◌, ℕ, Bool, true, false, IsTr
 use Rattle.std.specs.List.{AllByRecursion}
 use Rattle.fluent_ast.specs.Tree.{Text, Entry}
 use Rattle.fluent_semantics.specs.Bundle.{Bundle}
-use Rattle.fluent_places.specs.Clean.{Place, names_of, NeverFails}
-use Rattle.fluent_places.specs.Findings.{AreFindingsOf, IsNamedOrFine}
-use Rattle.fluent_places.specs.Laws.{FineIsWritten}
-use Rattle.fluent_places.specs.declared.finding.Finding.{Finding}
+use Rattle.fluent_places.specs.Places.{Place, names_of}
+use Rattle.fluent_clean.specs.Clean.{NeverFails}
+use Rattle.fluent_clean.specs.Findings.{AreFindingsOf, IsNamedOrFine}
+use Rattle.fluent_clean.specs.Laws.{FineIsWritten}
+use Rattle.fluent_clean.specs.declared.finding.Finding.{Finding}
 use Rattle.fluent_check.specs.Linted.{AreLinted, NoneFails, is_none, places_of}
 
 -- these are the findings of the bundle's files

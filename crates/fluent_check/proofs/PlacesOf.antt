@@ -8,13 +8,13 @@ use Rattle.std.specs.Borrow.{Bor}
 use Rattle.std.specs.Slice.{IsItemAt}
 use Rattle.indexmap.specs.IndexSet.{insert_key}
 use Rattle.fluent_ast.specs.Tree.{Text, is_yes}
-use Rattle.fluent_places.specs.Clean.{Place, Names, place_same, place_view, views}
+use Rattle.fluent_places.specs.Places.{Place, Names, place_same, place_view, views}
 use Rattle.fluent_places.specs.declared.place.Place as code_place
-use Rattle.fluent_check.specs.Among.{is_at, same_place}
+use Rattle.fluent_differences.specs.Among.{is_at, same_place}
 use Rattle.fluent_check.specs.Places.{first_at, first_places, place_of, places_of, stands}
 use Rattle.fluent_sources.specs.Standing.{Standing, standing_view}
 use Rattle.fluent_sources.specs.declared.standing.Standing as code
-use Rattle.fluent_check.proofs.PlaceTests.{any_place, same_test}
+use Rattle.fluent_differences.specs.Facts.PlaceTests.{any_place, same_test}
 
 module _ (named : Names Text) (seen : List Place) (s : Standing) (ss : List Standing) where
   step_if : (b : Bool) → (stands named (place_of s) && not (is_at (place_of s) seen)) ≡ b

@@ -3,7 +3,7 @@ use Rattle.std.proofs.Common.{◌≡◌, ◌∙◌, ◌++◌, List, [], ◌∷�
 use Rattle.std.proofs.lemmas.List.{append-nil, map-append}
 use Rattle.std.specs.List.{cons_option, filter_map}
 use Rattle.std.specs.Option.{option_map}
-use Rattle.fluent_places.specs.Clean.{Place, place_view}
+use Rattle.fluent_places.specs.Places.{Place, place_view}
 use Rattle.fluent_patterns.specs.Found.{Problem, problem_view}
 use Rattle.fluent_check.specs.Whole.{whole_view, wholes}
 use Rattle.fluent_check.specs.declared.whole.Whole.{Whole}

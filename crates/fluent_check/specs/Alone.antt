@@ -2,9 +2,9 @@
 use Rattle.std.specs.Prelude.{◌&&◌, ◌||◌, not, Bool, true, false, List, [], ◌∷◌, if◌then◌else◌}
 use Rattle.fluent_ast.specs.Tree.{Text, no_attribute, attribute}
 use Rattle.fluent_semantics.specs.Bundle.{is_message}
-use Rattle.fluent_places.specs.Clean.{Place, of_message, of_term, views, Names, names_of}
+use Rattle.fluent_places.specs.Places.{Place, of_message, of_term, views, Names, names_of}
 use Rattle.fluent_patterns.specs.Found.{Problem, not_translated, value_not_translated, not_in_reference, value_not_in_reference, Flaw, whole}
-use Rattle.fluent_check.specs.Among.{is_at}
+use Rattle.fluent_differences.specs.Among.{is_at}
 use Rattle.fluent_check.specs.Bundles.{bundle_view}
 use Rattle.fluent_check.specs.declared.alone.Side as code
 

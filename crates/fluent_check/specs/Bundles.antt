@@ -11,7 +11,7 @@ use Rattle.fluent_values.specs.declared.formatter.NoFormatter.{NoFormatter}
 use Rattle.fluent_values.specs.declared.function.NoFunction.{NoFunction}
 use Rattle.fluent_values.specs.declared.transform.NoTransform.{NoTransform}
 use Rattle.fluent_values.specs.declared.types.custom.NoCustom.{NoCustom}
-use Rattle.fluent_places.specs.Clean.{Names, names_of}
+use Rattle.fluent_places.specs.Places.{Names, names_of}
 use Rattle.fluent_bundle.specs.BundleView.{meant}
 use Rattle.fluent_resource.specs.ResourceView.{entries_of}
 use Rattle.fluent_bundle.specs.declared.bundle.FluentBundle.{FluentBundle}

@@ -7,7 +7,7 @@ use Rattle.fluent_ast.specs.Tree.{Text}
 use Rattle.fluent_semantics.specs.Value.{error_value}
 use Rattle.fluent_semantics.specs.Bundle.{Bundle, Function, after, add_function}
 use Rattle.fluent_places.specs.Asked.{texts}
-use Rattle.fluent_places.specs.Clean.{Need, a_message, a_term, a_function, a_variable, a_default}
+use Rattle.fluent_places.specs.Needs.{Need, a_message, a_term, a_function, a_variable, a_default}
 
 -- the ids of those that are called
 abbrev pub function_if : Need → List Text

@@ -6,10 +6,10 @@ use Rattle.fluent_ast.specs.Tree.{Text, Attribute, no_attribute, attribute, Elem
 use Rattle.fluent_semantics.specs.Arguments.{get}
 use Rattle.fluent_semantics.specs.Bundle.{Target, unknown, without_value, found, added}
 use Rattle.fluent_semantics.specs.Examples.{say, put, var, msg, own, fun, case, default, choose, entry, private}
-use Rattle.fluent_places.specs.Clean.{Place, of_message, of_term, Names, place_target, places_in}
+use Rattle.fluent_places.specs.Places.{Place, of_message, of_term, Names, place_target, places_in}
 use Rattle.fluent_patterns.specs.Found.{not_translated, value_not_translated, not_in_reference, value_not_in_reference, unknown_variable, variable_left_out, term_left_out, function_left_out, Flaw, whole, the_reference}
 use Rattle.fluent_check.specs.Alone.{Side, untranslated, unreferenced}
-use Rattle.fluent_check.specs.Compared.{Wording, differences}
+use Rattle.fluent_differences.specs.Compared.{Wording, differences}
 
 -- ---- values and attributes that stand on one side alone
 

@@ -1,7 +1,7 @@
 -- Texts that are word for word those of the reference.
 use Rattle.std.specs.Prelude.{Bool, true, false, Option, Some, None}
 use Rattle.fluent_ast.specs.Tree.{Text, Pattern, is_yes, pattern_same}
-use Rattle.fluent_places.specs.Clean.{Place, Names, place_target}
+use Rattle.fluent_places.specs.Places.{Place, Names, place_target}
 use Rattle.fluent_places.specs.PlaceView.{pattern_in}
 use Rattle.fluent_patterns.specs.Categories.{Categories, no_categories}
 

@@ -3,12 +3,12 @@ use Rattle.std.specs.Prelude.{◌≡◌, ℕ, nat_le, Bool, true, false, List, [
 use Rattle.std.specs.List.{AllByRecursion}
 use Rattle.fluent_ast.specs.Tree.{Text, Pattern}
 use Rattle.fluent_places.specs.Asked.{AreAsked, list_of, texts}
-use Rattle.fluent_places.specs.Clean.{Place, of_message, of_term, Names, names_of, place_target}
+use Rattle.fluent_places.specs.Places.{Place, of_message, of_term, Names, names_of, place_target}
 use Rattle.fluent_places.specs.PlaceView.{pattern_in}
 use Rattle.fluent_patterns.specs.Found.{Flaw, Found}
 use Rattle.fluent_check.specs.Alone.{Side, unreferenced, untranslated}
 use Rattle.fluent_check.specs.Bundles.{bundle_view}
-use Rattle.fluent_check.specs.Compared.{Wording, differences}
+use Rattle.fluent_differences.specs.Compared.{Wording, differences}
 use Rattle.fluent_sources.specs.Groups.{Group}
 use Rattle.fluent_check.specs.Languages.{all_of}
 use Rattle.fluent_check.specs.Places.{keys_of, place_of, places_of}

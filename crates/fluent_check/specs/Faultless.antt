@@ -4,8 +4,8 @@ use Rattle.std.specs.Borrow.{Bor}
 use Rattle.std.specs.List.{AllByRecursion}
 use Rattle.fluent_ast.specs.Tree.{Text, Entry}
 use Rattle.fluent_semantics.specs.Bundle.{Bundle}
-use Rattle.fluent_places.specs.Clean.{Place, Names, names_of, place_target}
-use Rattle.fluent_check.specs.Among.{is_at}
+use Rattle.fluent_places.specs.Places.{Place, Names, names_of, place_target}
+use Rattle.fluent_differences.specs.Among.{is_at}
 use Rattle.fluent_check.specs.Called.{with_functions}
 use Rattle.fluent_check.specs.Languages.{all_of}
 use Rattle.fluent_check.specs.Linted.{NoneFails, places_of}

@@ -3,7 +3,7 @@ use Rattle.std.specs.Prelude.{◌≡◌, ℕ, List, [], ◌∷◌, map, Some, No
 use Prim.Native.String.{String}
 use Rattle.fluent_ast.specs.Tree.{Text, no_attribute, attribute, Pattern}
 use Rattle.fluent_semantics.specs.Bundle.{a_message}
-use Rattle.fluent_places.specs.Clean.{Place, of_message, of_term, Names}
+use Rattle.fluent_places.specs.Places.{Place, of_message, of_term, Names}
 use Rattle.fluent_patterns.specs.Found.{Problem, whole, taken_id, function_id, repeated_attribute}
 use Rattle.fluent_check.specs.Differences.{Edition, all_here}
 use Rattle.fluent_sources.specs.Groups.{Group, groups_of}

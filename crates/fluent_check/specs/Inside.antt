@@ -2,5 +2,4 @@
 pub mod Editions
 pub mod Faultless
 pub mod Looks
-pub mod Names
 pub mod Places

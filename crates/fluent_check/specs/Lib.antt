@@ -1,8 +1,6 @@
 pub mod Alone
-pub mod Among
 pub mod Bundles
 pub mod Called
-pub mod Compared
 pub mod ComparedRows
 pub mod Copied
 pub mod Differences

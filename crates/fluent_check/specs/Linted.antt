@@ -5,9 +5,10 @@ use Rattle.std.specs.declared.vec.Vec.{Vec}
 use Rattle.std.proofs.Common.{Global}
 use Rattle.fluent_ast.specs.Tree.{Text, Entry}
 use Rattle.fluent_semantics.specs.Bundle.{Bundle}
-use Rattle.fluent_places.specs.Clean.{Place, names_of, NeverFails, places_in, views}
-use Rattle.fluent_places.specs.Findings.{AreFindingsOf}
-use Rattle.fluent_places.specs.declared.finding.Finding.{Finding}
+use Rattle.fluent_places.specs.Places.{Place, names_of, places_in, views}
+use Rattle.fluent_clean.specs.Clean.{NeverFails}
+use Rattle.fluent_clean.specs.Findings.{AreFindingsOf}
+use Rattle.fluent_clean.specs.declared.finding.Finding.{Finding}
 use Rattle.fluent_places.specs.declared.place.Place as code_place
 use Rattle.fluent_patterns.specs.Found.{Problem, too_many_placeables}
 use Rattle.fluent_check.specs.Tried.{ReachesLimit, is_shown}

@@ -2,7 +2,7 @@
 use Rattle.std.specs.Prelude.{◌≡◌, List, map, codes}
 use Rattle.fluent_ast.specs.Tree.{Text}
 use Rattle.fluent_places.specs.Asked.{AreAskedIn}
-use Rattle.fluent_places.specs.Clean.{Place, Names, names_of, views}
+use Rattle.fluent_places.specs.Places.{Place, Names, names_of, views}
 use Rattle.fluent_check.specs.Languages.{all_of}
 use Rattle.fluent_check.specs.Places.{place_of, places_of}
 use Rattle.fluent_sources.specs.ReadFiles.{ReadFile, entries_in}

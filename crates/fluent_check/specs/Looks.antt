@@ -5,8 +5,8 @@ use Rattle.std.specs.List.{AllByRecursion}
 use Rattle.fluent_ast.specs.Tree.{Text}
 use Rattle.fluent_semantics.specs.Bundle.{Bundle}
 use Rattle.fluent_places.specs.Asked.{texts}
-use Rattle.fluent_places.specs.Clean.{Place, Names, names_of}
-use Rattle.fluent_places.specs.declared.finding.Finding as lint
+use Rattle.fluent_places.specs.Places.{Place, Names, names_of}
+use Rattle.fluent_clean.specs.declared.finding.Finding as lint
 use Rattle.fluent_patterns.specs.Categories.{Categories, categories_of, no_categories}
 use Rattle.fluent_patterns.specs.Found as found
 use Rattle.fluent_patterns.specs.Found.{found_in}
@@ -19,10 +19,9 @@ use Rattle.fluent_check.specs.Languages.{all_of}
 use Rattle.fluent_check.specs.Linted.{AreLinted, is_none}
 use Rattle.fluent_check.specs.Patterns.{Against, called_in, found_in_patterns, found_selects}
 use Rattle.fluent_check.specs.Places.{first_at, place_of, places_of}
+use Rattle.fluent_sources.specs.Ids.{found_ids}
 use Rattle.fluent_sources.specs.ReadFiles.{ReadFile}
-use Rattle.fluent_sources.specs.Repeated.{function_ids, repeated_attributes}
 use Rattle.fluent_sources.specs.Standing.{Standing, standings_in}
-use Rattle.fluent_sources.specs.Taken.{taken}
 use Rattle.fluent_check.specs.Tried.{is_shown}
 use Rattle.fluent_sources.specs.Unreadable.{unreadable}
 use Rattle.fluent_check.specs.Whole.{found_wholes, whole_problems}
@@ -65,10 +64,6 @@ pub record IsLook (settings : Settings) (look : Look) : Type 0 where
   pub asks : AllByRecursion (TellsAskedAt (named_in settings look.group) look.asks) (map place_of (places_in settings look.group))
   pub differences : AreDifferences look.group (named_in settings look.group) (places_in settings look.group) look.differences
   pub linted : AreLinted (linted_bundle settings look.group) (entries_loaded look.group) look.linted
-
--- ids and names of attributes that can't be had where they stand
-abbrev pub found_ids : List Standing → List found.Found
-found_ids ss = taken [] ss ++ (function_ids ss ++ repeated_attributes [] ss)
 
 -- what is wrong in patterns
 abbrev pub found_patterns : Settings → Group → (Place → Text → Bool) → List found.Found

@@ -3,13 +3,13 @@ use Rattle.std.specs.Prelude.{◌≡◌, Bool, List, [], ◌∷◌, ◌++◌}
 use Rattle.fluent_ast.specs.Tree.{Text, Pattern}
 use Rattle.fluent_semantics.specs.Bundle.{Target, unknown, without_value, found}
 use Rattle.fluent_places.specs.Asked.{texts}
-use Rattle.fluent_places.specs.Clean.{Place, Names, names_of, place_target, needs}
+use Rattle.fluent_places.specs.Places.{Place, Names, names_of, place_target}
+use Rattle.fluent_places.specs.Needs.{needs}
 use Rattle.fluent_patterns.specs.Categories.{Categories}
 use Rattle.fluent_patterns.specs.Found.{Flaw, Found}
-use Rattle.fluent_patterns.specs.Missing.{missing}
-use Rattle.fluent_patterns.specs.Numbers.{no_numbers}
+use Rattle.fluent_patterns.specs.References.{reference_flaws}
 use Rattle.fluent_patterns.specs.Selects.{select_flaws}
-use Rattle.fluent_patterns.specs.Terms.{asks_of, term_flaws}
+use Rattle.fluent_patterns.specs.Terms.{asks_of}
 use Rattle.fluent_check.specs.Bundles.{bundle_view}
 use Rattle.fluent_check.specs.Called.{functions_in}
 use Rattle.fluent_check.specs.Copied.{is_copied, unless_copied}
@@ -31,8 +31,7 @@ against_view a = record {
 
 -- of a pattern
 abbrev pub flaws_of : Against → Pattern → List Flaw
-flaws_of a p =
-    missing a.named a.functions p ++ (term_flaws a.named a.asks p ++ no_numbers p)
+flaws_of a p = reference_flaws a.named a.functions a.asks p
 
 abbrev pub flaws_if : Against → Target → List Flaw
 flaws_if a unknown = []

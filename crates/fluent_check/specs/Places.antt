@@ -2,8 +2,8 @@
 use Rattle.std.specs.Prelude.{◌≡◌, ◌&&◌, not, Bool, true, false, List, [], ◌∷◌, ◌++◌, map, Option, Some, None, if◌then◌else◌}
 use Rattle.fluent_ast.specs.Tree.{Text}
 use Rattle.fluent_semantics.specs.Bundle.{Target, unknown, without_value, found}
-use Rattle.fluent_places.specs.Clean.{Place, Names, place_target, views}
-use Rattle.fluent_check.specs.Among.{is_at, same_place}
+use Rattle.fluent_places.specs.Places.{Place, Names, place_target, views}
+use Rattle.fluent_differences.specs.Among.{is_at, same_place}
 use Rattle.fluent_sources.specs.Standing.{Standing, standings}
 use Rattle.fluent_check.specs.declared.places.Places as code
 

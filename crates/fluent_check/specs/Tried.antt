@@ -7,7 +7,7 @@ use Rattle.fluent_semantics.specs.Bundle.{Bundle, found, key_value}
 use Rattle.fluent_semantics.specs.Errors.{Error, overriding, parser_error, resolver_error, lost, no_value, missing_default, cyclic, too_many_placeables}
 use Rattle.fluent_semantics.specs.Result.{written_pattern}
 use Rattle.fluent_semantics.specs.Value.{Value}
-use Rattle.fluent_places.specs.Clean.{Place, names_of, place_target}
+use Rattle.fluent_places.specs.Places.{Place, names_of, place_target}
 use Rattle.fluent_places.specs.PlaceView.{pattern_in}
 use Rattle.fluent_patterns.specs.Choices.{Choice, choices}
 

@@ -9,7 +9,7 @@ use Rattle.fluent_semantics.specs.Examples.{put, var, str, fun, case, case_numbe
 use Rattle.fluent_semantics.specs.Meaning.{ran}
 use Rattle.fluent_semantics.specs.Value.{text_value, try_number}
 use Rattle.fluent_semantics.specs.Walk.{elements}
-use Rattle.fluent_places.specs.Clean.{of_message}
+use Rattle.fluent_places.specs.Places.{of_message}
 use Rattle.fluent_patterns.specs.Choices.{choices}
 use Rattle.fluent_check.specs.Tried.{is_shown, tried_arguments}
 

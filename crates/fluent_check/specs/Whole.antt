@@ -1,10 +1,10 @@
 -- What the linter finds of whole values and attributes.
 use Rattle.std.specs.Prelude.{ℕ, List, [], ◌∷◌, ◌++◌, map, Bool, true, false, Option, Some, None, option_map}
 use Rattle.std.specs.List.{filter_map, list_all}
-use Rattle.fluent_places.specs.Clean.{Place, place_view, views}
-use Rattle.fluent_places.specs.declared.finding.Finding.{Finding}
-use Rattle.fluent_places.specs.declared.finding.Kind.{Kind}
-use Rattle.fluent_places.specs.declared.finding.Kind.TheVariants as kind
+use Rattle.fluent_places.specs.Places.{Place, place_view, views}
+use Rattle.fluent_clean.specs.declared.finding.Finding.{Finding}
+use Rattle.fluent_clean.specs.declared.finding.Kind.{Kind}
+use Rattle.fluent_clean.specs.declared.finding.Kind.TheVariants as kind
 use Rattle.fluent_patterns.specs.Found.{Found, whole, Problem, problem_view, cycle, too_many_placeables, may_open_too_many, leads_to}
 use Rattle.fluent_sources.specs.Standing.{Standing, found_at}
 use Rattle.fluent_check.specs.declared.whole.Whole.{Whole}

@@ -1,7 +1,7 @@
 -- Worked rows of what the linter finds of whole places.
 use Rattle.std.specs.Prelude.{◌≡◌, ℕ, Bool, [], ◌∷◌, true, false, Some, None}
-use Rattle.fluent_places.specs.Clean.{Place, place_view}
-use Rattle.fluent_places.specs.declared.finding.Kind.TheVariants as kind
+use Rattle.fluent_places.specs.Places.{Place, place_view}
+use Rattle.fluent_clean.specs.declared.finding.Kind.TheVariants as kind
 use Rattle.fluent_places.specs.declared.place.Place as code
 use Rattle.fluent_patterns.specs.Found.{leads_to, may_open_too_many, too_many_placeables}
 use Rattle.fluent_check.specs.Whole.{all_lead_on, second_or, whole_problem, whole_problems}

@@ -1,12 +1,12 @@
 //! What stands in a translation or in its reference alone.
 
 ghost use Rattle.std.specs.Prelude.{◌≡◌, OnOk};
-ghost use Rattle.fluent_places.specs.Clean.{place_view};
+ghost use Rattle.fluent_places.specs.Places.{place_view};
 ghost use Rattle.fluent_patterns.specs.Found.{AddsFlaws, problem_view};
 ghost use Rattle.fluent_check.specs.Alone.{has_message, is_alone, is_of_message, is_told, side_view, unreferenced, untranslated, whole_if};
 
-use crate::among::stands;
 use crate::bundle::Bundle;
+use fluent_differences::stands;
 use fluent_patterns::{Flaw, Part, Problem};
 use fluent_places::Place;
 use indexmap::IndexSet;

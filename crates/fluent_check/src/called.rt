@@ -2,7 +2,7 @@
 
 ghost use Rattle.std.specs.Prelude.{◌≡◌, [], ◌∷◌, OnOk};
 ghost use Rattle.fluent_ast.specs.View.{pattern_view};
-ghost use Rattle.fluent_places.specs.Clean.{needs};
+ghost use Rattle.fluent_places.specs.Needs.{needs};
 ghost use Rattle.fluent_places.specs.NeedsView.{need_view};
 ghost use Rattle.fluent_places.specs.Asked.{texts};
 ghost use Rattle.fluent_check.specs.Bundles.{bundle_view};

@@ -1,7 +1,7 @@
 //! All that is found in files.
 
 ghost use Rattle.std.specs.Prelude.{◌≡◌, [], ◌∷◌, IfOk, IsTrue, OnOk, map};
-ghost use Rattle.fluent_places.specs.Clean.{names_of};
+ghost use Rattle.fluent_places.specs.Places.{names_of};
 ghost use Rattle.fluent_patterns.specs.CategoryView.{categories_view};
 ghost use Rattle.fluent_patterns.specs.Found.{AddsFound};
 ghost use Rattle.fluent_check.specs.Bundles.{bundle_view};
@@ -13,8 +13,9 @@ ghost use Rattle.fluent_check.specs.Inside.Looks.{AddsAllDifferences, AddsDiffer
 ghost use Rattle.fluent_check.specs.Bundles.{names_by};
 ghost use Rattle.fluent_check.specs.Inside.Places.{place_found};
 ghost use Rattle.fluent_check.specs.Linted.{NoneFails};
-ghost use Rattle.fluent_check.specs.Looks.{IsFound, categories_if, found_ids};
+ghost use Rattle.fluent_check.specs.Looks.{IsFound, categories_if};
 ghost use Rattle.fluent_check.specs.Places.{keys_of, place_of};
+ghost use Rattle.fluent_sources.specs.Ids.{found_ids};
 ghost use Rattle.fluent_sources.specs.Reading.{entries_read};
 ghost use Rattle.fluent_sources.specs.Standing.{standing_view, standings};
 ghost use Rattle.fluent_check.specs.Whole.{found_whole, found_wholes, whole_view, wholes};
@@ -28,14 +29,12 @@ use crate::referred::{Edition, add_referred};
 use crate::whole::Whole;
 use fluent_patterns::{Categories, Finding, Part, categories_of, no_categories, terms_at};
 use fluent_places::Place;
-use fluent_sources::Grouping;
 use fluent_sources::files::{Read, all_files};
 use fluent_sources::groups::Group;
-use fluent_sources::repeated::{add_function_ids, add_repeated};
 use fluent_sources::source::Sources;
 use fluent_sources::standing::{Standing, standings_in};
-use fluent_sources::taken::add_taken;
-use fluent_sources::unreadable::add_unreadable;
+use fluent_sources::unreadable::unreadable;
+use fluent_sources::{Grouping, found_ids};
 use std::alloc::{AllocError, Global};
 
 /// How files are looked at.
@@ -77,9 +76,8 @@ fn add_names<'s>(
 ) -> Result<(), AllocError>
     ensures { OnOk result (AddsFound (found_ids (map standing_view standings.now)) findings.old findings.new) }
 {
-    add_taken(alloc, standings, findings)?;
-    add_function_ids(standings, findings)?;
-    add_repeated(alloc, standings, findings)
+    let mut found = found_ids(alloc, standings)?;
+    findings.append(&mut found)
 }
 
 /// Adds what is wrong in the patterns of a bundle's places, beside those of a reference.
@@ -303,8 +301,7 @@ pub fn findings<'s>(
         → AreFaultlessBy settings.now.grouping (tag_of settings.now.language) (entries_read beside.now) (entries_read sources.now)) }
 {
     let files = all_files(alloc, beside, sources, references)?;
-    let mut findings = Vec::new(alloc);
-    add_unreadable(alloc, files.list.as_slice(), &mut findings)?;
+    let mut findings = unreadable(alloc, files.list.as_slice())?;
     let categories = categories_for(alloc, settings)?;
     let all = Group::of_all(&files);
     let is_clean = add_groups(alloc, settings, &categories, &all, &mut findings)?;

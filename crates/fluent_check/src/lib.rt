@@ -2,19 +2,17 @@
 #![tactic(auto)]
 
 mod alone;
-mod among;
 pub mod bundle;
 mod called;
 pub mod checking;
-mod compared;
 pub mod examples;
+mod flaws;
 pub mod laws;
 mod linted;
 mod listing;
 mod patterns;
 mod places;
 mod referred;
-mod rules;
 mod tried;
 mod whole;
 

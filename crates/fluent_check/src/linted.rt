@@ -1,7 +1,7 @@
 //! What the linter says of a bundle of files.
 
 ghost use Rattle.std.specs.Prelude.{◌≡◌, [], IfOk, IsTrue, OnOk, map};
-ghost use Rattle.fluent_places.specs.Clean.{places_in, views};
+ghost use Rattle.fluent_places.specs.Places.{places_in, views};
 ghost use Rattle.fluent_resource.specs.ResourceView.{entries_of};
 ghost use Rattle.fluent_check.specs.Bundles.{bundle_view};
 ghost use Rattle.fluent_sources.specs.Groups.{entries_loaded, group_view};
@@ -11,7 +11,8 @@ ghost use Rattle.fluent_sources.specs.ReadFiles.{entries_in, file_view};
 use crate::bundle::Bundle;
 use crate::whole::{Whole, whole_problems};
 use fluent_bundle::FluentResource;
-use fluent_places::{Finding, Place, laws, lint_places, places_of};
+use fluent_clean::{Finding, laws, lint_places};
+use fluent_places::{Place, places_of};
 use fluent_sources::files::Read;
 use fluent_sources::groups::Group;
 use std::alloc::{AllocError, Global};

@@ -1,7 +1,7 @@
 //! The values and attributes of files, with what each asks for.
 
 ghost use Rattle.std.specs.Prelude.{◌≡◌, IfOk, codes, map};
-ghost use Rattle.fluent_places.specs.Clean.{names_of, views};
+ghost use Rattle.fluent_places.specs.Places.{names_of, views};
 ghost use Rattle.fluent_check.specs.Bundles.{bundle_view};
 ghost use Rattle.fluent_sources.specs.Groups.{entries_loaded, group_view, loaded};
 ghost use Rattle.fluent_check.specs.Languages.{all_of};
@@ -13,7 +13,7 @@ ghost use Rattle.fluent_sources.specs.ReadFiles.{files_read};
 use crate::bundle::{Bundle, bundle_of_group};
 use crate::places::{Places, places_of};
 use fluent_places::{Asked, Place, variables_at};
-use fluent_sources::files::add_sources;
+use fluent_sources::files::files_of;
 use fluent_sources::groups::Group;
 use fluent_sources::source::Sources;
 use fluent_sources::standing::{Standing, standings_in};
@@ -69,7 +69,6 @@ fn listing_of<'s>(alloc: Global, group: &Group<'_, '_, 's>) -> Result<Listing<'s
 pub fn list_places<'s>(alloc: Global, sources: &Sources<'s>) -> Result<Listing<'s>, AllocError>
     ensures { IfOk result (IsListing (files_read 0 sources.now)) }
 {
-    let mut files = Vec::new(alloc);
-    add_sources(alloc, sources, &mut files)?;
+    let files = files_of(alloc, sources)?;
     listing_of(alloc, &Group::alone(files.as_slice()))
 }

@@ -3,29 +3,27 @@
 ghost use Rattle.std.specs.Prelude.{◌≡◌, IfOk, OnOk, Some};
 ghost use Rattle.fluent_ast.specs.View.{pattern_view};
 ghost use Rattle.fluent_places.specs.Asked.{texts};
-ghost use Rattle.fluent_places.specs.Clean.{names_of};
+ghost use Rattle.fluent_places.specs.Places.{names_of};
 ghost use Rattle.fluent_places.specs.PlaceView.{pattern_at};
 ghost use Rattle.fluent_patterns.specs.Categories.{no_categories};
 ghost use Rattle.fluent_patterns.specs.CategoryView.{categories_view};
-ghost use Rattle.fluent_patterns.specs.Found.{AddsFound, flaws_in};
+ghost use Rattle.fluent_patterns.specs.Found.{AddsFound};
 ghost use Rattle.fluent_patterns.specs.Terms.{AreOf};
 ghost use Rattle.fluent_check.specs.Bundles.{bundle_view};
 ghost use Rattle.fluent_check.specs.Called.{AddsNames};
 ghost use Rattle.fluent_check.specs.Copied.{is_same, unless_copied};
 ghost use Rattle.fluent_check.specs.Bundles.{names_by};
-ghost use Rattle.fluent_check.specs.Patterns.{against_view, called_at, called_in, flaws_of, found_in_pattern, found_in_patterns, found_selects, found_selects_at};
+ghost use Rattle.fluent_check.specs.Patterns.{against_view, called_at, called_in, found_in_pattern, found_in_patterns, found_selects, found_selects_at};
 ghost use Rattle.fluent_sources.specs.Standing.{standing_view, standings};
 
 use crate::bundle::Bundle;
 use crate::called::add_called;
+use crate::flaws::add_flaws;
 use crate::places::Places;
 use fluent_ast::ast::Pattern;
-use fluent_patterns::{
-    Categories, Finding, Flaw, Terms, add_missing, add_no_numbers, add_select_flaws,
-    add_term_flaws, no_categories,
-};
+use fluent_patterns::{Categories, Finding, Terms, no_categories, reference_flaws, select_flaws};
 use fluent_places::{Place, pattern_at};
-use fluent_sources::standing::{Standing, add_flaws};
+use fluent_sources::standing::Standing;
 use std::alloc::{AllocError, Global};
 
 /// What patterns are held against.
@@ -35,28 +33,6 @@ pub(crate) struct Against<'b, 'r, 's> {
     pub terms: &'b Terms<'s>,
     /// Functions that the application adds.
     pub functions: &'b [&'b str],
-}
-
-/// What is wrong in a pattern.
-fn flaws_of<'s>(
-    alloc: Global,
-    against: &Against<'_, '_, 's>,
-    pattern: &Pattern<'s>,
-) -> Result<Vec<Flaw<'s>>, AllocError>
-    requires { AreOf (names_of (bundle_view against.now.bundle.now)) against.now.terms.now }
-    ensures { IfOk result (λ flaws. flaws_in flaws ≡ flaws_of (against_view against.now) (pattern_view pattern.now)) }
-{
-    let mut flaws = Vec::new(alloc);
-    add_missing(
-        alloc,
-        against.bundle,
-        against.functions,
-        pattern,
-        &mut flaws,
-    )?;
-    add_term_flaws(alloc, against.bundle, against.terms, pattern, &mut flaws)?;
-    add_no_numbers(alloc, pattern, &mut flaws)?;
-    Ok(flaws)
 }
 
 /// Adds what is wrong in the pattern that stands there.
@@ -73,7 +49,13 @@ fn add_at<'s>(
     let Some(pattern) = pattern_at(against.bundle, &standing.site.place) else {
         return Ok(());
     };
-    let flaws = flaws_of(alloc, against, pattern)?;
+    let flaws = reference_flaws(
+        alloc,
+        against.bundle,
+        against.functions,
+        against.terms,
+        pattern,
+    )?;
     add_flaws(standing, flaws.as_slice(), findings)
 }
 
@@ -183,8 +165,7 @@ fn add_selects_at<'s>(
     let is_copied = is_copied(pattern, reference, &standing.site.place);
     let none = no_categories(alloc);
     let judging = unless_copied(is_copied, categories, &none);
-    let mut flaws = Vec::new(alloc);
-    add_select_flaws(alloc, judging, pattern, &mut flaws)?;
+    let flaws = select_flaws(alloc, judging, pattern)?;
     add_flaws(standing, flaws.as_slice(), findings)
 }
 

@@ -2,7 +2,7 @@
 
 ghost use Rattle.std.specs.Prelude.{◌≡◌, [], IfOk, OnOk, map};
 ghost use Rattle.std.specs.Option.{option_map};
-ghost use Rattle.fluent_places.specs.Clean.{names_of, place_view};
+ghost use Rattle.fluent_places.specs.Places.{names_of, place_view};
 ghost use Rattle.fluent_check.specs.Bundles.{bundle_view};
 ghost use Rattle.fluent_check.specs.Inside.Places.{AddsPlace, place_found};
 ghost use Rattle.fluent_check.specs.Places.{ArePlaces, stands};

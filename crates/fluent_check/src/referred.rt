@@ -2,21 +2,22 @@
 
 ghost use Rattle.std.specs.Prelude.{◌≡◌, IfOk, OnOk};
 ghost use Rattle.std.specs.Option.{option_map};
-ghost use Rattle.fluent_places.specs.Clean.{place_view};
-ghost use Rattle.fluent_patterns.specs.Found.{AddsFlaws, AddsFound};
+ghost use Rattle.fluent_places.specs.Places.{place_view};
+ghost use Rattle.fluent_patterns.specs.Found.{AddsFound, flaws_in};
 ghost use Rattle.fluent_check.specs.Alone.{side_view};
-ghost use Rattle.fluent_check.specs.Compared.{wording_view};
+ghost use Rattle.fluent_differences.specs.Compared.{wording_view};
 ghost use Rattle.fluent_check.specs.Differences.{all_differences, all_here, all_there, compared, edition_view, is_of_message, side_of, told_here, told_there, wording_at};
 ghost use Rattle.fluent_check.specs.Inside.Editions.{IsEdition};
 ghost use Rattle.fluent_sources.specs.Standing.{standing_view, standings};
 
 use crate::alone::{Side, add_unreferenced, add_untranslated};
 use crate::bundle::Bundle;
-use crate::compared::{Wording, add_differences};
+use crate::flaws::add_flaws;
 use crate::places::Places;
+use fluent_differences::{Wording, differences};
 use fluent_patterns::{Finding, Flaw};
 use fluent_places::{Asked, Place, pattern_at, variables_at};
-use fluent_sources::standing::{Standing, add_flaws};
+use fluent_sources::standing::Standing;
 use std::alloc::{AllocError, Global};
 
 /// A translation, or its reference: its bundle, where its values and attributes stand, and what each asks for.
@@ -76,28 +77,26 @@ fn is_of_message(place: &Place<'_>) -> bool
     }
 }
 
-/// Adds how a value or an attribute of a message differs from that of the reference, where both have it.
-fn add_if_both<'s>(
+/// How a value or an attribute of a message differs from that of the reference, where both have it.
+fn compared<'s>(
     alloc: Global,
     reference: &Edition<'_, '_, '_, 's>,
     translation: &Edition<'_, '_, '_, 's>,
     place: &Place<'s>,
-    flaws: &mut Vec<Flaw<'s>>,
-) -> Result<(), AllocError>
-    ensures { OnOk result (AddsFlaws
-        (compared (edition_view reference.now) (edition_view translation.now) (place_view place.now))
-        flaws.old flaws.new) }
+) -> Result<Vec<Flaw<'s>>, AllocError>
+    ensures { IfOk result (λ flaws. flaws_in flaws
+        ≡ compared (edition_view reference.now) (edition_view translation.now) (place_view place.now)) }
 {
     if !is_of_message(place) {
-        return Ok(());
+        return Ok(Vec::new(alloc));
     }
     let Some(there) = reference.wording(place) else {
-        return Ok(());
+        return Ok(Vec::new(alloc));
     };
     let Some(here) = translation.wording(place) else {
-        return Ok(());
+        return Ok(Vec::new(alloc));
     };
-    add_differences(alloc, &translation.places.keys, &there, &here, flaws)
+    differences(alloc, &translation.places.keys, &there, &here)
 }
 
 /// Adds what is told of a value or an attribute of the translation.
@@ -113,8 +112,7 @@ fn add_here<'s>(
         findings.old findings.new) }
 {
     let place = &standing.site.place;
-    let mut flaws = Vec::new(alloc);
-    add_if_both(alloc, reference, translation, place, &mut flaws)?;
+    let mut flaws = compared(alloc, reference, translation, place)?;
     add_unreferenced(&reference.side(), &translation.side(), place, &mut flaws)?;
     add_flaws(standing, flaws.as_slice(), findings)
 }

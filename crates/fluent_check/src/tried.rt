@@ -4,7 +4,7 @@ ghost use Rattle.std.specs.Prelude.{◌≡◌, [], IfOk, map};
 ghost use Rattle.std.specs.List.{list_any};
 ghost use Rattle.fluent_ast.specs.View.{key_view, pattern_view};
 ghost use Rattle.fluent_bundle_entries.specs.ErrorView.{error_view};
-ghost use Rattle.fluent_places.specs.Clean.{place_view};
+ghost use Rattle.fluent_places.specs.Places.{place_view};
 ghost use Rattle.fluent_semantics.specs.Bundle.{key_value};
 ghost use Rattle.fluent_values.specs.View.{named, value_view};
 ghost use Rattle.fluent_patterns.specs.Choices.{choice_view, choices_in};

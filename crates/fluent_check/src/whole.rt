@@ -2,7 +2,7 @@
 
 ghost use Rattle.std.specs.Prelude.{◌≡◌, IfOk};
 ghost use Rattle.std.specs.Option.{option_map};
-ghost use Rattle.fluent_places.specs.Clean.{place_view, views};
+ghost use Rattle.fluent_places.specs.Places.{place_view, views};
 ghost use Rattle.fluent_patterns.specs.Found.{problem_view};
 ghost use Rattle.fluent_check.specs.Bundles.{bundle_view};
 ghost use Rattle.fluent_check.specs.Tried.{is_shown};
@@ -10,8 +10,9 @@ ghost use Rattle.fluent_check.specs.Whole.{all_lead_on, large_problem, leads_on,
 
 use crate::bundle::Bundle;
 use crate::tried::is_shown;
+use fluent_clean::{Finding as Linted, Kind};
 use fluent_patterns::Problem;
-use fluent_places::{Finding as Linted, Kind, Place};
+use fluent_places::Place;
 use std::alloc::{AllocError, Global};
 
 /// A problem of a whole value or attribute.

@@ -3,7 +3,7 @@ use Rattle.std.proofs.Common.{◌≡◌, ◌∙◌, ◌++◌, List, [], ◌∷�
 use Rattle.std.specs.Borrow.{Bor}
 use Rattle.fluent_ast.specs.Tree.{Text}
 use Rattle.fluent_places.specs.Asked.{AreAskedIn, IsAskedIn, texts}
-use Rattle.fluent_places.specs.Clean.{Place, Names}
+use Rattle.fluent_places.specs.Places.{Place, Names}
 use Rattle.fluent_places.specs.declared.asked.Asked.{Asked}
 use Rattle.fluent_sources.specs.Wording.{place_text}
 use Rattle.fluent_cli.specs.Inside.Listing.{line_by, variables_text}

@@ -4,7 +4,7 @@
 use Rattle.std.specs.Prelude.{◌≡◌, List, [], ◌∷◌, ◌++◌, flat_map, codes, string_bytes}
 use Rattle.fluent_ast.specs.Tree.{Text}
 use Rattle.fluent_places.specs.Asked.{AreAsked, AreDistinct}
-use Rattle.fluent_places.specs.Clean.{Place, Names}
+use Rattle.fluent_places.specs.Places.{Place, Names}
 use Rattle.fluent_check.specs.Listed.{listed_names, listed_places}
 use Rattle.fluent_sources.specs.ReadFiles.{files_read}
 use Rattle.fluent_sources.specs.Wording.{place_text}

@@ -8,7 +8,7 @@ ghost use Rattle.fluent_cli_report.specs.Unread.{unread_views};
 use crate::answer::{Answer, Status};
 use crate::reading::Inputs;
 use fluent_check::{Found, Grouping, Settings, findings};
-use fluent_cli_report::{Counts, Look, Outcome, ReportOptions, UnreadFile, put_report};
+use fluent_cli_report::{Counts, Look, Outcome, ReportOptions, UnreadFile, Written, write_report};
 use fluent_cli_words::CheckRequest;
 use std::alloc::{AllocError, Global};
 
@@ -92,7 +92,7 @@ fn options_of<'r>(request: &'r CheckRequest<'_>) -> ReportOptions<'r>
 }
 
 /// Reports what was found in these files, and which can't be read.
-fn report(
+fn reported(
     alloc: Global,
     request: &CheckRequest<'_>,
     inputs: &Inputs<'_>,
@@ -107,17 +107,15 @@ fn report(
         findings: found.findings.as_slice(),
         is_well,
     };
-    let mut output = String::new(alloc);
-    let counts = put_report(
+    let Written { text, counts } = write_report(
         alloc,
         texts.as_slice(),
         unread,
         &outcome,
         &options_of(request),
-        &mut output,
     )?;
     let status = status_over(is_well, status_by(request.is_strict, counts));
-    Ok(Answer::prints(alloc, status, output))
+    Ok(Answer::prints(alloc, status, text))
 }
 
 /// Checks files, and reports what is found, and which can't be read. Status 0 says that no error was found. Where no kind of
@@ -132,5 +130,5 @@ pub(crate) fn check(
     ensures { IfOk result (IsChecked request.now inputs.now (unread_views unread.now)) }
 {
     let found = found_in(alloc, request, inputs)?;
-    report(alloc, request, inputs, unread, &found)
+    reported(alloc, request, inputs, unread, &found)
 }

@@ -3,15 +3,15 @@
 ghost use Rattle.std.specs.Prelude.{IfOk, OnOk, flat_map};
 ghost use Rattle.fluent_sources.specs.Files.{Adds};
 ghost use Rattle.fluent_places.specs.Asked.{texts};
-ghost use Rattle.fluent_places.specs.Clean.{place_view, views};
+ghost use Rattle.fluent_places.specs.Places.{place_view, views};
 ghost use Rattle.fluent_cli.specs.Inside.Listing.{line_by};
 ghost use Rattle.fluent_cli.specs.Listed.{IsListed, variable_text};
 
 use crate::answer::{Answer, Status};
 use fluent_check::{Sources, list_places};
-use fluent_cli_report::say_faults;
+use fluent_cli_report::fault_lines;
 use fluent_places::{Asked, Place};
-use fluent_sources::wording::put_place;
+use fluent_sources::wording::place_text;
 use std::alloc::{AllocError, Global};
 
 /// Writes variables.
@@ -25,10 +25,16 @@ fn put_variables(variables: &[&str], text: &mut String) -> Result<(), AllocError
 }
 
 /// Writes the line of a value or an attribute: its name, and the variables that it asks for.
-fn put_line<'s>(asked: &Asked<'s>, place: &Place<'s>, text: &mut String) -> Result<(), AllocError>
+fn put_line<'s>(
+    alloc: Global,
+    asked: &Asked<'s>,
+    place: &Place<'s>,
+    text: &mut String,
+) -> Result<(), AllocError>
     ensures { OnOk result (Adds (line_by asked.now (place_view place.now)) text.old text.new) }
 {
-    put_place(place, text)?;
+    let name = place_text(alloc, place)?;
+    text.push_str(name.as_str())?;
     if let Some(variables) = asked.of(place) {
         put_variables(variables.as_slice(), text)?;
     }
@@ -37,6 +43,7 @@ fn put_line<'s>(asked: &Asked<'s>, place: &Place<'s>, text: &mut String) -> Resu
 
 /// Writes the lines of values and attributes.
 fn put_lines<'s>(
+    alloc: Global,
     asked: &Asked<'s>,
     places: &[Place<'s>],
     text: &mut String,
@@ -44,7 +51,7 @@ fn put_lines<'s>(
     ensures { OnOk result (Adds (flat_map (line_by asked.now) (views places.now)) text.old text.new) }
 {
     for place in places {
-        put_line(asked, place, text)?;
+        put_line(alloc, asked, place, text)?;
     }
     Ok(())
 }
@@ -55,9 +62,13 @@ pub(crate) fn list(alloc: Global, sources: &Sources<'_>) -> Result<Answer, Alloc
 {
     let listing = list_places(alloc, sources)?;
     let mut output = String::new(alloc);
-    put_lines(&listing.asked, listing.places.as_slice(), &mut output)?;
-    let mut errors = String::new(alloc);
-    say_faults(alloc, sources, &mut errors)?;
+    put_lines(
+        alloc,
+        &listing.asked,
+        listing.places.as_slice(),
+        &mut output,
+    )?;
+    let errors = fault_lines(alloc, sources)?;
     Ok(Answer {
         status: Status::Fine,
         output,

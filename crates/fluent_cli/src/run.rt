@@ -10,9 +10,9 @@ use crate::list::list;
 pub use crate::reading::File;
 use crate::reading::{Inputs, read_inputs};
 use crate::show::show;
-use fluent_cli_report::{UnreadFile, say_unread};
+use fluent_cli_report::{UnreadFile, unread_lines};
 use fluent_cli_words::Request;
-use fluent_sources::source::say_marks;
+use fluent_sources::source::mark_lines;
 use std::alloc::{AllocError, Global};
 
 /// What a request gives over what was read.
@@ -57,10 +57,10 @@ fn answer_after(
 ) -> Result<Answer, AllocError>
     ensures { IfOk result (GivesAfter request.now inputs.now (unread_views unread.now)) }
 {
-    let mut errors = String::new(alloc);
-    say_unread(unread, &mut errors)?;
+    let mut errors = unread_lines(alloc, unread)?;
     let texts = inputs.texts(alloc)?;
-    say_marks(texts.as_slice(), &mut errors)?;
+    let marks = mark_lines(alloc, texts.as_slice())?;
+    errors.push_str(marks.as_str())?;
     let given = answer(alloc, request, inputs, unread)?;
     errors.push_str(given.errors.as_str())?;
     Ok(Answer {
@@ -96,8 +96,7 @@ fn answer_over(
     ensures { IfOk result (GivesOver request.now inputs.now (unread_views unread.now)) }
 {
     if is_lost(request, inputs, unread) {
-        let mut errors = String::new(alloc);
-        say_unread(unread, &mut errors)?;
+        let errors = unread_lines(alloc, unread)?;
         return Ok(Answer::says(alloc, Status::Fault, errors));
     }
     answer_after(alloc, request, inputs, unread)

@@ -15,7 +15,7 @@ use fluent_bundle::{
     FluentArgs, FluentError, FluentValue, NoCustom, NoFormatter, NoFunction, NoTransform,
 };
 use fluent_check::bundle::bundles_of;
-use fluent_cli_report::say_faults;
+use fluent_cli_report::fault_lines;
 use fluent_cli_words::{Argument, ShowRequest};
 use fluent_fallback::Chain;
 use fluent_plural_rules::RuleTexts;
@@ -128,9 +128,9 @@ fn said_of(
 ) -> Result<String, AllocError>
     ensures { IfOk result (λ said. string_bytes said ≡ said_of request.now inputs.now (reported errors.now) is_there) }
 {
-    let mut said = String::new(alloc);
-    say_faults(alloc, &inputs.beside, &mut said)?;
-    say_faults(alloc, &inputs.sources, &mut said)?;
+    let mut said = fault_lines(alloc, &inputs.beside)?;
+    let faults = fault_lines(alloc, &inputs.sources)?;
+    said.push_str(faults.as_str())?;
     say_errors(errors, &mut said)?;
     say_missing(request, is_there, &mut said)?;
     Ok(said)

@@ -1,5 +1,5 @@
 -- What a report is, by what is asked of it, the files, what was found in them, and those that can't be read.
-use Rattle.std.specs.Prelude.{◌≡◌, ◌==◌, ◌&&◌, ℕ, Bool, false, not, List, length, ◌++◌, flat_map, map, String}
+use Rattle.std.specs.Prelude.{◌≡◌, ◌==◌, ◌&&◌, ℕ, Bool, false, not, List, length, ◌++◌, flat_map, map, String, string_bytes}
 use Rattle.std.proofs.Common.{Global}
 use Rattle.fluent_patterns.specs.Found.{found_view}
 use Rattle.fluent_sources.specs.Faults.{faults_of}
@@ -17,6 +17,7 @@ use Rattle.fluent_cli_words.specs.declared.request.Format.TheVariants as format
 use Rattle.fluent_cli_report.specs.declared.options.Look.{Look}
 use Rattle.fluent_cli_report.specs.declared.options.ReportOptions.{ReportOptions}
 use Rattle.fluent_cli_report.specs.declared.report.Outcome.{Outcome}
+use Rattle.fluent_cli_report.specs.declared.report.Written.{Written}
 use Rattle.fluent_cli_report.specs.declared.rows.Counts.{Counts}
 
 -- How a report is written: its format, how it looks, whether what makes the status 1 is told alone, whether each finding is told, and whether a
@@ -57,12 +58,13 @@ whole_report m unread well errors warnings told =
 abbrev pub WritesRows : ReportOptions → List Unread → Bool → Counts → List Row → String Global → String Global → Type 0
 WritesRows options unread well counts told = Adds (whole_report (manner_of options) unread well counts.errors counts.warnings told)
 
--- The rows that are told were written, and the rows of all are so many.
-pub record Reports (options : ReportOptions) (reads : List Read) (unread : List Unread) (outcome : Outcome) (old new : String Global) (counts : Counts) : Type 0 where
-  pub written : WritesRows options unread outcome.is_well counts
-      (rows_told (folds (manner_of options)) reads options.allowed.now (map found_view outcome.findings.now)) old new
-  pub errors : counts.errors ≡ errors_in (rows_of reads options.allowed.now (map found_view outcome.findings.now))
-  pub warnings : counts.warnings ≡ warnings_in (rows_of reads options.allowed.now (map found_view outcome.findings.now))
+-- The text has the rows that are told, and the rows of all are so many.
+pub record IsWritten (options : ReportOptions) (reads : List Read) (unread : List Unread) (outcome : Outcome) (written : Written) : Type 0 where
+  pub text : string_bytes written.text
+      ≡ whole_report (manner_of options) unread outcome.is_well written.counts.errors written.counts.warnings
+      (rows_told (folds (manner_of options)) reads options.allowed.now (map found_view outcome.findings.now))
+  pub errors : written.counts.errors ≡ errors_in (rows_of reads options.allowed.now (map found_view outcome.findings.now))
+  pub warnings : written.counts.warnings ≡ warnings_in (rows_of reads options.allowed.now (map found_view outcome.findings.now))
 
 -- what is said of files beside an answer: what can't be read in them, and which ids come again in the same file
 abbrev pub fault_lines : Sources → Text

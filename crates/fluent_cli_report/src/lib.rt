@@ -13,6 +13,6 @@ mod sorting;
 mod unread;
 
 pub use options::{Look, ReportOptions};
-pub use report::{Outcome, put_report, say_faults};
+pub use report::{Outcome, Written, fault_lines, write_report};
 pub use rows::Counts;
-pub use unread::{UnreadFile, say_unread};
+pub use unread::{UnreadFile, unread_lines};

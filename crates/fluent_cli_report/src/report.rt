@@ -1,13 +1,13 @@
 //! How findings are reported.
 
-ghost use Rattle.std.specs.Prelude.{◌≡◌, ◌++◌, OnOk, IfOk, flat_map, map};
+ghost use Rattle.std.specs.Prelude.{◌≡◌, ◌++◌, OnOk, IfOk, flat_map, map, string_bytes};
 ghost use Rattle.fluent_patterns.specs.Found.{found_in, found_view};
 ghost use Rattle.fluent_sources.specs.Files.{Adds};
 ghost use Rattle.fluent_sources.specs.Reading.{read_view};
 ghost use Rattle.fluent_cli_report.specs.Kept.{row_view, row_views};
 ghost use Rattle.fluent_cli_report.specs.Picture.{picture};
 ghost use Rattle.fluent_cli_report.specs.Report.{github_line, github_report, if_told, report, text_report};
-ghost use Rattle.fluent_cli_report.specs.Reported.{Reports, WritesRows, fault_lines, folds, manner_of};
+ghost use Rattle.fluent_cli_report.specs.Reported.{IsWritten, WritesRows, fault_lines, folds, manner_of};
 ghost use Rattle.fluent_sources.specs.Lined.{lined_views};
 ghost use Rattle.fluent_cli_report.specs.Pages.{page_views, pages_of};
 ghost use Rattle.fluent_cli_report.specs.Rows.{kept_in_order, line_text, rows_in_order, told_rows};
@@ -281,22 +281,27 @@ fn put_all<'f>(
     put_end(options.format, options.is_quiet, counts, reason, output)
 }
 
-/// Writes what is reported of findings in files, and of those that can't be read, and gives how many errors and warnings are
-/// found.
+/// What is written of findings, and how many errors and warnings there are.
+#[derive(Drop)]
+pub struct Written {
+    pub text: String,
+    pub counts: Counts,
+}
+
+/// What is reported of findings in files, and of those that can't be read.
 ///
 /// # Errors
 ///
 /// An allocation failed.
-pub fn put_report<'f>(
+pub fn write_report<'f>(
     alloc: Global,
     sources: &[Source<'f>],
     unread: &[UnreadFile<'f>],
     outcome: &Outcome<'_, '_>,
     options: &ReportOptions<'_>,
-    output: &mut String,
-) -> Result<Counts, AllocError>
+) -> Result<Written, AllocError>
     ensures { IfOk result
-        (Reports options.now (map read_view sources.now) (unread_views unread.now) outcome.now output.old output.new) }
+        (IsWritten options.now (map read_view sources.now) (unread_views unread.now) outcome.now) }
 {
     let left = left_of(alloc, options.allowed, outcome.findings)?;
     let files = lined_of(alloc, sources)?;
@@ -311,6 +316,7 @@ pub fn put_report<'f>(
         pages.as_slice(),
         kept.as_slice(),
     )?;
+    let mut text = String::new(alloc);
     put_all(
         alloc,
         unread,
@@ -318,9 +324,9 @@ pub fn put_report<'f>(
         options,
         counts,
         told,
-        output,
+        &mut text,
     )?;
-    Ok(counts)
+    Ok(Written { text, counts })
 }
 
 /// Writes the line of each row.
@@ -333,19 +339,16 @@ fn put_lines(rows: &[Row<'_>], output: &mut String) -> Result<(), AllocError>
     Ok(())
 }
 
-/// Says what can't be read in sources, and which ids come again in the same source: a line for each, in order, and no line
-/// twice.
+/// What can't be read in sources, and which ids come again in the same source: a line for each, in order, and no line twice.
 ///
 /// # Errors
 ///
 /// An allocation failed.
-pub fn say_faults(
-    alloc: Global,
-    sources: &Sources<'_>,
-    errors: &mut String,
-) -> Result<(), AllocError>
-    ensures { OnOk result (Adds (fault_lines sources.now) errors.old errors.new) }
+pub fn fault_lines(alloc: Global, sources: &Sources<'_>) -> Result<String, AllocError>
+    ensures { IfOk result (λ lines. string_bytes lines ≡ fault_lines sources.now) }
 {
     let rows = rows_in_order(alloc, sources.texts.as_slice(), faults(alloc, sources)?)?;
-    put_lines(rows.as_slice(), errors)
+    let mut lines = String::new(alloc);
+    put_lines(rows.as_slice(), &mut lines)?;
+    Ok(lines)
 }

@@ -5,7 +5,7 @@ ghost use Rattle.std.specs.List.{list_any};
 ghost use Rattle.std.specs.Str.{bytes_eq};
 ghost use Rattle.fluent_patterns.specs.Found.{found_in, found_view};
 ghost use Rattle.fluent_sources.specs.Files.{Adds};
-ghost use Rattle.fluent_sources.specs.Causes.{folded_view};
+ghost use Rattle.fluent_sources.specs.Causes.{folded_view, others_text};
 ghost use Rattle.fluent_sources.specs.Lined.{lined_views};
 ghost use Rattle.fluent_sources.specs.Wording.{entry_text};
 ghost use Rattle.fluent_cli_report.specs.Kept.{KeepsMore, row_view, row_views};
@@ -13,14 +13,13 @@ ghost use Rattle.fluent_cli_report.specs.Rows.{errors_in, folded_row, kept, line
 ghost use Rattle.fluent_cli_report.specs.Pages.{page_views, pages_of};
 ghost use Rattle.fluent_cli_report.specs.Told.{is_told};
 ghost use Rattle.std.specs.Option.{option_map};
-ghost use Rattle.fluent_places.specs.Clean.{place_view};
+ghost use Rattle.fluent_places.specs.Places.{place_view};
 
 use crate::pages::line_in;
 use fluent_places::Place;
-use fluent_sources::causes::put_others;
 use fluent_sources::lines::Lined;
 use fluent_sources::positions::{name_at, position_at};
-use fluent_sources::wording::{put_place, put_problem};
+use fluent_sources::wording::{place_text, problem_text};
 use fluent_sources::{Finding, Folded};
 use indexmap::IndexSet;
 use std::alloc::{AllocError, Global};
@@ -66,11 +65,10 @@ pub(crate) fn is_told(is_little: bool, row: &Row<'_>) -> bool
 fn entry_of(alloc: Global, place: &Option<Place<'_>>) -> Result<String, AllocError>
     ensures { IfOk result (λ text. string_bytes text ≡ entry_text (option_map place_view place.now)) }
 {
-    let mut text = String::new(alloc);
-    if let Some(place) = place {
-        put_place(place, &mut text)?;
+    match place {
+        Some(place) => place_text(alloc, place),
+        None => Ok(String::new(alloc)),
     }
-    Ok(text)
 }
 
 /// What is reported of a finding.
@@ -87,8 +85,7 @@ fn row_of<'f>(
     let problem = finding.problem;
     let at = position_at(files, spot);
     let entry = entry_of(alloc, &finding.place)?;
-    let mut text = String::new(alloc);
-    put_problem(alloc, files, spot, entry.as_str(), &problem, &mut text)?;
+    let text = problem_text(alloc, files, spot, entry.as_str(), &problem)?;
     Ok(Row {
         file: name_at(files, spot.file),
         line: at.line,
@@ -205,6 +202,17 @@ pub(crate) fn rows_of<'f>(
         rows.push(row_of(alloc, files, pages, finding)?)?;
     }
     Ok(rows)
+}
+
+/// Writes how many others are not told.
+fn put_others(others: usize, text: &mut String) -> Result<(), AllocError>
+    ensures { OnOk result (Adds (others_text others) text.old text.new) }
+{
+    if others == 0 {
+        Ok(())
+    } else {
+        write!(text, ", and {others} more")
+    }
 }
 
 /// What is told of a finding that stands for others, too.

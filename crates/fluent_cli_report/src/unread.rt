@@ -1,6 +1,6 @@
 //! Files that can't be read.
 
-ghost use Rattle.std.specs.Prelude.{◌≡◌, IfOk, OnOk, flat_map, map};
+ghost use Rattle.std.specs.Prelude.{◌≡◌, IfOk, OnOk, flat_map, map, string_bytes};
 ghost use Rattle.fluent_sources.specs.Files.{Adds};
 ghost use Rattle.fluent_cli_report.specs.Kept.{row_view, row_views};
 ghost use Rattle.fluent_cli_report.specs.Unread.{unread_line, unread_lines, unread_row, unread_rows, unread_view};
@@ -33,18 +33,19 @@ fn say(file: &UnreadFile<'_>, errors: &mut String) -> Result<(), AllocError>
     }
 }
 
-/// Says why files can't be read, a line for each.
+/// Why files can't be read: a line for each.
 ///
 /// # Errors
 ///
 /// An allocation failed.
-pub fn say_unread(files: &[UnreadFile<'_>], errors: &mut String) -> Result<(), AllocError>
-    ensures { OnOk result (Adds (unread_lines (map unread_view files.now)) errors.old errors.new) }
+pub fn unread_lines(alloc: Global, files: &[UnreadFile<'_>]) -> Result<String, AllocError>
+    ensures { IfOk result (λ lines. string_bytes lines ≡ unread_lines (map unread_view files.now)) }
 {
+    let mut lines = String::new(alloc);
     for file in files {
-        say(file, errors)?;
+        say(file, &mut lines)?;
     }
-    Ok(())
+    Ok(lines)
 }
 
 /// What is reported of a file that can't be read.

@@ -7,11 +7,11 @@ use Rattle.fluent_ast.specs.Tree.{Text}
 use Rattle.fluent_semantics.specs.Bundle.{Bundle}
 use Rattle.fluent_resource.specs.ResourceView.{entries_of}
 use Rattle.fluent_resource.specs.declared.resource.FluentResource.{FluentResource}
-use Rattle.fluent_places.specs.Clean.{Place, place_view, views, names_of, places_in}
-use Rattle.fluent_places.specs.Findings.{AreFindingsOf}
+use Rattle.fluent_places.specs.Places.{Place, place_view, views, names_of, places_in}
+use Rattle.fluent_clean.specs.Findings.{AreFindingsOf}
 use Rattle.fluent_lint.specs.Lints.{places_in_resources, Lints}
-use Rattle.fluent_places.specs.Laws.{FineIsWritten}
-use Rattle.fluent_places.specs.declared.finding.Finding.{Finding}
+use Rattle.fluent_clean.specs.Laws.{FineIsWritten}
+use Rattle.fluent_clean.specs.declared.finding.Finding.{Finding}
 use Rattle.fluent_places.specs.declared.place.Place as code
 
 -- ---- the places of resources

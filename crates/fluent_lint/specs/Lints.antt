@@ -6,9 +6,10 @@ use Rattle.fluent_ast.specs.Tree.{Text}
 use Rattle.fluent_semantics.specs.Bundle.{Bundle}
 use Rattle.fluent_resource.specs.ResourceView.{entries_of}
 use Rattle.fluent_resource.specs.declared.resource.FluentResource.{FluentResource}
-use Rattle.fluent_places.specs.Clean.{Place, names_of, places_in, IsFine, NeverFails}
-use Rattle.fluent_places.specs.Findings.{AreFindingsOf}
-use Rattle.fluent_places.specs.declared.finding.Finding.{Finding}
+use Rattle.fluent_places.specs.Places.{Place, names_of, places_in}
+use Rattle.fluent_clean.specs.Clean.{IsFine, NeverFails}
+use Rattle.fluent_clean.specs.Findings.{AreFindingsOf}
+use Rattle.fluent_clean.specs.declared.finding.Finding.{Finding}
 
 -- the places of resources, in order
 abbrev pub places_in_resources : List FluentResource → List Place

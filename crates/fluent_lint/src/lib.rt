@@ -4,9 +4,10 @@
 mod linting;
 mod sources;
 
+pub use fluent_clean::{Finding, Kind, lint_places};
 pub use fluent_places::{
-    Asked, Finding, Kind, LineColumn, Need, Place, lint_places, needs, pattern_at, places_of,
-    position, refers_to, variables_at, variables_of,
+    Asked, LineColumn, Need, Place, needs, pattern_at, places_of, position, refers_to,
+    variables_at, variables_of,
 };
 pub use linting::{lint, variables};
 pub use sources::{Definition, Twice, defined_twice, unreadable};

@@ -2,7 +2,7 @@
 
 ghost use Rattle.std.specs.Prelude.{IfOk};
 ghost use Rattle.fluent_places.specs.Asked.{AreAskedAt, AreDistinct, texts};
-ghost use Rattle.fluent_places.specs.Clean.{names_of};
+ghost use Rattle.fluent_places.specs.Places.{names_of};
 ghost use Rattle.fluent_lint.specs.Lints.{Lints};
 
 use crate::sources::places_in;
@@ -10,13 +10,14 @@ use fluent_bundle::{
     FluentBundle, FluentFormatter, FluentFunction, FluentResource, FluentType, Means, MemoizerKind,
     Transform,
 };
-use fluent_places::{Finding, Place, laws, lint_places, variables_of};
+use fluent_clean::{Finding, laws, lint_places};
+use fluent_places::{Place, variables_of};
 use std::alloc::{AllocError, Global};
 
 /// What is wrong with the messages and terms of a bundle, in the values and attributes of these resources.
 ///
 /// Each of them has a finding, or is clean and opens no more placeables than the bundle's limit. Each finding is true,
-/// as its [`fluent_places::Kind`] says. Whatever one of them needs that isn't there, or isn't clean, has a finding of its own.
+/// as its [`fluent_clean::Kind`] says. Whatever one of them needs that isn't there, or isn't clean, has a finding of its own.
 /// And what is clean and within the limit never shows an error: for all arguments that give each variable that it asks
 /// for ([`variables`]), its text by substitution is what is written, with no error.
 ///

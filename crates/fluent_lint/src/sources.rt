@@ -5,7 +5,7 @@ ghost use Rattle.std.specs.Option.{option_map};
 ghost use Rattle.fluent_ast.specs.View.{entry_view};
 ghost use Rattle.fluent_lint.specs.Twice.{AreTwice, AreUnreadable, defined_from, defined_if, id_of};
 ghost use Rattle.fluent_lint.specs.Inside.Seen.{GoesOver, noted_first};
-ghost use Rattle.fluent_places.specs.Clean.{views};
+ghost use Rattle.fluent_places.specs.Places.{views};
 ghost use Rattle.fluent_lint.specs.Lints.{places_in_resources};
 ghost use Rattle.fluent_resource.specs.ResourceView.{source_in};
 

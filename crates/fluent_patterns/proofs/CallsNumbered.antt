@@ -4,8 +4,8 @@ use Rattle.std.specs.List.{filter}
 use Rattle.std.proofs.lemmas.List.{append-nil, length-append}
 use Rattle.std.proofs.lemmas.List.Elements.{filter-append}
 use Rattle.fluent_ast.specs.Tree.{Pattern, nothing, more, Element, text, placeable, Expression, inline, select, Variants, no_variants, variant, Inline, string, number, function, message, term, variable, nested, Call, no_call, call, Arguments, arguments, Inlines, no_inlines, argument, Nameds, no_nameds, named_argument}
-use Rattle.fluent_places.specs.Clean as needs
-use Rattle.fluent_places.specs.Clean.{Need, a_default, has_default, unless}
+use Rattle.fluent_places.specs.Needs as needs
+use Rattle.fluent_places.specs.Needs.{Need, a_default, has_default, unless}
 use Rattle.fluent_patterns.specs.Numbered.{is_reference, references}
 use Rattle.fluent_patterns.specs.Numbers.{calls, in_element, in_expression, in_variants, in_inline, in_call, in_arguments, in_positional, in_named}
 

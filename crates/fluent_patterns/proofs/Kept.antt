@@ -9,7 +9,7 @@ use Rattle.indexmap.specs.IndexSet.{IndexSet}
 use Rattle.fluent_ast.specs.Tree.{Text, Pattern, is_yes}
 use Rattle.fluent_semantics.specs.Bundle.{Target, unknown, without_value, found}
 use Rattle.fluent_places.specs.Asked.{list_of, texts}
-use Rattle.fluent_places.specs.Clean.{Place, place_same, place_view, Names, place_target}
+use Rattle.fluent_places.specs.Places.{Place, place_same, place_view, Names, place_target}
 use Rattle.fluent_places.specs.PlaceView.{pattern_in}
 use Rattle.fluent_places.specs.declared.asked.Asked.{Asked}
 use Rattle.fluent_places.specs.declared.place.Place as code

@@ -6,7 +6,8 @@ use Rattle.std.specs.List.{AllByRecursion}
 use Rattle.fluent_ast.specs.Tree.{Text}
 use Rattle.fluent_semantics.specs.Number.{is_text}
 use Rattle.fluent_places.specs.Asked.{texts, AsksForAt, IsAskedIn}
-use Rattle.fluent_places.specs.Clean.{Place, Names, IsAmong}
+use Rattle.fluent_places.specs.Places.{Place, Names}
+use Rattle.fluent_places.specs.Needs.{IsAmong}
 use Rattle.fluent_places.specs.declared.asked.Asked.{Asked}
 use Rattle.fluent_patterns.specs.Names.{is_one_of}
 use Rattle.fluent_patterns.specs.Terms.{asks_by, is_asked, TellsAskedAt}

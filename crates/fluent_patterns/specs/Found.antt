@@ -3,7 +3,7 @@ use Rattle.std.specs.Prelude.{◌≡◌, ℕ, List, [], ◌∷◌, ◌++◌, map
 use Rattle.std.specs.declared.vec.Vec.{Vec}
 use Rattle.std.proofs.Common.{Global}
 use Rattle.fluent_ast.specs.Tree.{Text}
-use Rattle.fluent_places.specs.Clean.{Place, place_view}
+use Rattle.fluent_places.specs.Places.{Place, place_view}
 use Rattle.fluent_reasons.specs.declared.expected.Expected.{Expected}
 use Rattle.fluent_patterns.specs.declared.finding.Finding.{Finding}
 use Rattle.fluent_patterns.specs.declared.finding.Flaw as code_flaw

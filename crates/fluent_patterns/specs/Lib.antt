@@ -12,6 +12,7 @@ pub mod NumberRows
 pub mod Numbered
 pub mod Numbers
 pub mod Problems
+pub mod References
 pub mod ScanView
 pub mod SelectRows
 pub mod SelectView

@@ -2,7 +2,8 @@
 use Rattle.std.specs.Prelude.{◌||◌, List, [], ◌∷◌, Bool, true, false, Option, Some, None}
 use Rattle.fluent_ast.specs.Tree.{Text, Attribute, no_attribute, attribute, Pattern}
 use Rattle.fluent_semantics.specs.Bundle.{Entry, Target, unknown, without_value, found, message_target, term_target, is_message, is_term, is_function}
-use Rattle.fluent_places.specs.Clean.{Names, Need, a_message, a_term, a_function, a_variable, a_default}
+use Rattle.fluent_places.specs.Places.{Names}
+use Rattle.fluent_places.specs.Needs.{Need, a_message, a_term, a_function, a_variable, a_default}
 use Rattle.fluent_patterns.specs.Found.{Problem, missing_message, missing_attribute, missing_value, missing_term, missing_term_attribute, missing_function, not_a_function, Flaw}
 use Rattle.fluent_patterns.specs.Names.{is_one_of}
 use Rattle.fluent_patterns.specs.Numbered.{flaws_of, if_any}

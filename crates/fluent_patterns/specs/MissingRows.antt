@@ -4,7 +4,8 @@ use Rattle.fluent_ast.specs.Tree.{Text, Inline, Pattern, no_attribute, attribute
 use Rattle.fluent_semantics.specs.Arguments.{get, set}
 use Rattle.fluent_semantics.specs.Bundle.{added, number_builtin}
 use Rattle.fluent_semantics.specs.Examples.{say, put, var, str, msg, msg_attribute, own, fun, case, choose, entry, private}
-use Rattle.fluent_places.specs.Clean.{Names, a_message, a_term, a_function, a_variable}
+use Rattle.fluent_places.specs.Places.{Names}
+use Rattle.fluent_places.specs.Needs.{a_message, a_term, a_function, a_variable}
 use Rattle.fluent_patterns.specs.Found.{missing_message, missing_attribute, missing_value, missing_term, missing_term_attribute, missing_function, not_a_function, the_reference}
 use Rattle.fluent_patterns.specs.Numbered.{references}
 use Rattle.fluent_patterns.specs.Missing.{missing}

@@ -2,7 +2,7 @@
 use Rattle.std.specs.Prelude.{ℕ, ◌+◌, List, [], ◌∷◌, ◌++◌, map, Bool, true, false, Option, Some, None}
 use Rattle.std.specs.List.{filter}
 use Rattle.fluent_ast.specs.Tree.{Pattern}
-use Rattle.fluent_places.specs.Clean.{Need, a_default, needs}
+use Rattle.fluent_places.specs.Needs.{Need, a_default, needs}
 use Rattle.fluent_patterns.specs.Found.{Problem, Flaw, the_reference}
 
 -- to a message, a term, a variable or a function

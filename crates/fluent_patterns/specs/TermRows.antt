@@ -4,7 +4,7 @@ use Rattle.fluent_ast.specs.Tree.{Text, Pattern, no_attribute, pattern_of}
 use Rattle.fluent_semantics.specs.Arguments.{get}
 use Rattle.fluent_semantics.specs.Bundle.{added}
 use Rattle.fluent_semantics.specs.Examples.{say, put, var, str, msg, own, own_with, named, fun, case, default, choose, entry, private}
-use Rattle.fluent_places.specs.Clean.{Place, of_term, Names}
+use Rattle.fluent_places.specs.Places.{Place, of_term, Names}
 use Rattle.fluent_patterns.specs.Found.{not_given, unused_argument, the_reference}
 use Rattle.fluent_patterns.specs.Names.{is_one_of, once, without}
 use Rattle.fluent_patterns.specs.Shown.{shown}

@@ -7,7 +7,8 @@ use Rattle.std.proofs.Common.{Global}
 use Rattle.fluent_ast.specs.Tree.{Text, Pattern, is_yes}
 use Rattle.fluent_semantics.specs.Bundle.{Target, unknown, without_value, found, term_target}
 use Rattle.fluent_places.specs.Asked.{AsksForAt, list_of, texts}
-use Rattle.fluent_places.specs.Clean.{Place, of_term, place_same, place_target, place_view, Names, Need, a_message, a_term, a_function, a_variable, a_default}
+use Rattle.fluent_places.specs.Places.{Place, of_term, place_same, place_target, place_view, Names}
+use Rattle.fluent_places.specs.Needs.{Need, a_message, a_term, a_function, a_variable, a_default}
 use Rattle.fluent_places.specs.declared.asked.Asked.{Asked}
 use Rattle.fluent_places.specs.declared.place.Place as code
 use Rattle.indexmap.specs.IndexSet.{IndexSet}

@@ -18,11 +18,7 @@ use fluent_places::{Need, Place, pattern_at};
 use std::alloc::{AllocError, Global};
 
 /// Adds what is missing of the references of a pattern, where an application has these functions too.
-///
-/// # Errors
-///
-/// An allocation failed.
-pub fn add_missing<'s, F, B: GetEntry<'s, F>>(
+pub(crate) fn add_missing<'s, F, B: GetEntry<'s, F>>(
     alloc: Global,
     bundle: &B,
     functions: &[&str],

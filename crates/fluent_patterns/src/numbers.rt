@@ -13,11 +13,7 @@ use fluent_ast::ast::{
 use std::alloc::{AllocError, Global};
 
 /// Adds the calls of `NUMBER` in a pattern whose answer is no number, whatever the arguments are.
-///
-/// # Errors
-///
-/// An allocation failed.
-pub fn add_no_numbers<'s>(
+pub(crate) fn add_no_numbers<'s>(
     alloc: Global,
     pattern: &Pattern<'s>,
     flaws: &mut Vec<Flaw<'s>>,

@@ -6,7 +6,7 @@ ghost use Rattle.fluent_ast.specs.References.{inlines_view, nameds_view, variant
 ghost use Rattle.fluent_ast.specs.View.{arguments_view, expression_view, inline_view, key_view, pattern_view};
 ghost use Rattle.fluent_patterns.specs.CategoryView.{categories_view, category_view};
 ghost use Rattle.fluent_patterns.specs.Categories.{comes};
-ghost use Rattle.fluent_patterns.specs.Found.{AddsFlaws, flaw_view};
+ghost use Rattle.fluent_patterns.specs.Found.{AddsFlaws, flaw_view, flaws_in};
 ghost use Rattle.fluent_patterns.specs.Selects as spec;
 ghost use Rattle.fluent_patterns.specs.SelectView.{passed_view, senses_view};
 
@@ -28,21 +28,19 @@ struct Passed<'s> {
     flaws: Vec<Flaw<'s>>,
 }
 
-/// Adds what is wrong with the selects of a pattern: where they are on numbers, categories of the language that they
+/// What is wrong with the selects of a pattern: where they are on numbers, categories of the language that they
 /// lack, and keys that never come; and, on whatever they are, keys that stand there before.
 ///
 /// # Errors
 ///
 /// An allocation failed.
-pub fn add_select_flaws<'s>(
+pub fn select_flaws<'s>(
     alloc: Global,
     categories: &Categories,
     pattern: &Pattern<'s>,
-    flaws: &mut Vec<Flaw<'s>>,
-) -> Result<(), AllocError>
-    ensures { OnOk result
-        (AddsFlaws (spec.select_flaws (categories_view categories.now) (pattern_view pattern.now))
-        flaws.old flaws.new) }
+) -> Result<Vec<Flaw<'s>>, AllocError>
+    ensures { IfOk result (λ flaws. flaws_in flaws
+        ≡ spec.select_flaws (categories_view categories.now) (pattern_view pattern.now)) }
 {
     let mut passed = Passed {
         selects: 0,
@@ -50,7 +48,7 @@ pub fn add_select_flaws<'s>(
         flaws: Vec::new(alloc),
     };
     pass_pattern(alloc, categories, pattern, &mut passed)?;
-    flaws.append(&mut passed.flaws)
+    Ok(passed.flaws)
 }
 
 #[cycle(selects)]

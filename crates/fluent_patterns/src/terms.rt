@@ -6,7 +6,8 @@ ghost use Rattle.std.specs.Option.{option_map};
 ghost use Rattle.fluent_ast.specs.References.{nameds_view};
 ghost use Rattle.fluent_ast.specs.View.{call_view, pattern_view};
 ghost use Rattle.fluent_places.specs.Asked.{texts};
-ghost use Rattle.fluent_places.specs.Clean.{names_in, names_set, place_target, place_view, views};
+ghost use Rattle.fluent_places.specs.Places.{place_target, place_view, views};
+ghost use Rattle.fluent_places.specs.Needs.{names_in, names_set};
 ghost use Rattle.fluent_places.specs.NeedsView.{need_view};
 ghost use Rattle.fluent_patterns.specs.Found.{problem_view, AddsFlaws};
 ghost use Rattle.fluent_patterns.specs.Names.{is_one_of, once};
@@ -95,11 +96,7 @@ fn kept<'t, 's>(shown: &'t Shown<'s>, place: &Place<'s>) -> Option<&'t IndexSet<
 }
 
 /// Adds what is wrong with the references to terms in a pattern.
-///
-/// # Errors
-///
-/// An allocation failed.
-pub fn add_term_flaws<'s, F, B: GetEntry<'s, F>>(
+pub(crate) fn add_term_flaws<'s, F, B: GetEntry<'s, F>>(
     alloc: Global,
     bundle: &B,
     terms: &Terms<'s>,

@@ -12,11 +12,12 @@ use Rattle.indexmap.specs.IndexSet.{insert_key}
 use Rattle.std.proofs.lemmas.List.{append_assoc, append-nil, map-append}
 use Rattle.fluent_ast.specs.Tree.{Text, Attribute, Pattern, is_yes}
 use Rattle.fluent_semantics.specs.Bundle.{Target, unknown, without_value, found}
-use Rattle.fluent_places.specs.Clean.{Place, of_message, place_same, place_view, views, Names, place_target, Need, a_message, a_term, a_function, a_variable, a_default, needs, IsAmong, AsksFor, itself, by_message}
+use Rattle.fluent_places.specs.Places.{Place, of_message, place_same, place_view, views, Names, place_target}
+use Rattle.fluent_places.specs.Needs.{Need, a_message, a_term, a_function, a_variable, a_default, needs, IsAmong, AsksFor, itself, by_message}
 use Rattle.fluent_places.specs.Asked.{AsksForAt, AreAsked, AreDistinct, texts}
 use Rattle.fluent_places.specs.PlaceView.{pattern_in}
 use Rattle.fluent_places.specs.Inside.Reached.{Adds, AddsNames, IsReference, NotesOf, TellsAll, needs_there, needs_at, IsThrough, Gathered}
-use Rattle.fluent_places.proofs.Growing.{all_map, among_at, prefix, last_of, wider, at_last}
+use Rattle.fluent_places.specs.Facts.Growing.{all_map, among_at, prefix, last_of, wider, at_last}
 use Rattle.fluent_places.specs.NeedsView.{need_view}
 use Rattle.fluent_places.specs.declared.listing.Need as code
 use Rattle.fluent_places.specs.declared.place.Place as places

@@ -4,7 +4,7 @@ use Rattle.std.proofs.lemmas.List.{append_assoc, append-nil, map-append, at_drop
 use Rattle.fluent_ast.specs.Tree.{pattern_of}
 use Rattle.fluent_ast.specs.View.{element_view, inline_view, pattern_view}
 use Rattle.fluent_ast.specs.References.{inlines_view, nameds_view, variants_view}
-use Rattle.fluent_places.specs.Clean.{Need, needs, in_element, in_variants, in_inline, in_positional, in_named}
+use Rattle.fluent_places.specs.Needs.{Need, needs, in_element, in_variants, in_inline, in_positional, in_named}
 use Rattle.fluent_places.specs.NeedsView.{need_view}
 use Rattle.fluent_places.specs.declared.listing.Need as code
 use Rattle.fluent_ast.specs.declared.ast.Expression.{the_lemmas}

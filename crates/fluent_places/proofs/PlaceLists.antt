@@ -7,7 +7,7 @@ use Rattle.fluent_ast.specs.Tree.{Attribute, attribute}
 use Rattle.fluent_ast.specs.View.{attribute_view, entry_view}
 use Rattle.fluent_ast.specs.declared.ast.Attribute as of_attribute
 use Rattle.fluent_ast.specs.declared.ast.Entry as of_entry
-use Rattle.fluent_places.specs.Clean.{Place, place_view, views, attribute_places, places_of, places_in}
+use Rattle.fluent_places.specs.Places.{Place, place_view, views, attribute_places, places_of, places_in}
 use Rattle.fluent_places.specs.Inside.Listing.{AddsPlaces}
 use Rattle.fluent_places.specs.declared.place.Place as code
 

@@ -7,7 +7,8 @@ use Rattle.std.specs.Option.{option_map}
 use Rattle.std.specs.Prelude.{Result, Ok, Err}
 use Rattle.std.specs.Result.{OnOk}
 use Rattle.fluent_ast.specs.Tree.{Text, is_yes}
-use Rattle.fluent_places.specs.Clean.{Place, place_same, place_view, views, Names, Need, IsAmong}
+use Rattle.fluent_places.specs.Places.{Place, place_same, place_view, views, Names}
+use Rattle.fluent_places.specs.Needs.{Need, IsAmong}
 use Rattle.fluent_places.specs.Asked.{AreAsked, AreDistinct, texts, index_of, list_at, list_of, AreAskedIn}
 use Rattle.fluent_places.specs.Inside.Sharing.{IsSetTo, AddsList, IsList, AreListed, IsGathered, Covers, IsOfList, LeadsToList, IsKnown, KeepsKnown, Joins, Settles}
 use Rattle.fluent_places.specs.Inside.Reached.{IsReference, needs_at}

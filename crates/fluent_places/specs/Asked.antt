@@ -9,7 +9,8 @@ use Rattle.std.proofs.Common.{Global}
 use Rattle.indexmap.specs.IndexSet.{IndexSet}
 use Rattle.fluent_ast.specs.Tree.{Text, Pattern, is_yes}
 use Rattle.fluent_semantics.specs.Bundle.{found}
-use Rattle.fluent_places.specs.Clean.{Place, place_same, place_view, Names, place_target, IsAmong, AsksFor}
+use Rattle.fluent_places.specs.Places.{Place, place_same, place_view, Names, place_target}
+use Rattle.fluent_places.specs.Needs.{IsAmong, AsksFor}
 use Rattle.fluent_places.specs.declared.asked.Asked.{Asked}
 use Rattle.fluent_places.specs.declared.place.Place as code
 

@@ -1,10 +1,8 @@
-pub mod Clean
-pub mod Findings
-pub mod Laws
+pub mod Places
+pub mod Needs
 pub mod Asked
 pub mod Columns
 pub mod Facts
 pub mod PlaceView
 pub mod NeedsView
-pub mod Rows
 pub mod Inside

@@ -3,7 +3,8 @@ use Rattle.std.specs.Prelude.{◌≡◌, List, Some, map, Vec}
 use Rattle.std.specs.declared.alloc.Global.{Global}
 use Rattle.fluent_ast.specs.View.{attribute_of, call_view, pattern_view}
 use Rattle.fluent_ast.specs.declared.ast.Pattern as tree
-use Rattle.fluent_places.specs.Clean.{Place, place_view, Need, a_message, a_term, a_function, a_variable, a_default, names_set, needs, place_of, IsAmong}
+use Rattle.fluent_places.specs.Places.{Place, place_view}
+use Rattle.fluent_places.specs.Needs.{Need, a_message, a_term, a_function, a_variable, a_default, names_set, needs, place_of, IsAmong}
 use Rattle.fluent_places.specs.declared.listing.Need as code
 use Rattle.fluent_places.specs.declared.listing.Need.TheVariants as variants
 use Rattle.fluent_places.specs.declared.place.Place as of_place

@@ -9,7 +9,7 @@ use Rattle.fluent_ast.specs.Tree.{Attribute, no_attribute, attribute, Pattern, i
 use Rattle.fluent_ast.specs.View.{pattern_view}
 use Rattle.fluent_ast.specs.declared.ast.Pattern as tree
 use Rattle.fluent_semantics.specs.Bundle.{Target, unknown, without_value, found}
-use Rattle.fluent_places.specs.Clean.{Place, of_message, of_term, place_same, place_view, Names, place_target}
+use Rattle.fluent_places.specs.Places.{Place, of_message, of_term, place_same, place_view, Names, place_target}
 use Rattle.fluent_places.specs.declared.place.Place as code
 
 abbrev pub pattern_in : Target → Option Pattern

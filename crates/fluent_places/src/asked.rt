@@ -4,7 +4,7 @@ ghost use Rattle.std.specs.Prelude.{◌≡◌, [], IfOk, OnOk};
 ghost use Rattle.std.specs.Option.{option_map};
 ghost use Rattle.fluent_places.specs.Inside.Sharing.{AddsList, IsSetTo};
 ghost use Rattle.fluent_places.specs.Asked.{index_of, list_of};
-ghost use Rattle.fluent_places.specs.Clean.{place_view};
+ghost use Rattle.fluent_places.specs.Places.{place_view};
 
 use crate::place::Place;
 use indexmap::{IndexMap, IndexSet};

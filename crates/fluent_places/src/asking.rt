@@ -5,7 +5,7 @@ ghost use Rattle.fluent_places.specs.Asked.{AreAskedAt, AreDistinct, texts};
 ghost use Rattle.fluent_places.specs.Inside.Reached.{AddsAll, AddsName, AddsPlace, NotedAt, Notes, NotesPattern};
 ghost use Rattle.fluent_places.specs.Inside.Sharing.{AreListed, IsGathered};
 ghost use Rattle.fluent_places.specs.NeedsView.{need_view};
-ghost use Rattle.fluent_places.specs.Clean.{place_view};
+ghost use Rattle.fluent_places.specs.Places.{place_view};
 
 use crate::asked::Asked;
 use crate::listing::{Need, needs};

@@ -3,7 +3,7 @@
 ghost use Rattle.std.specs.Prelude.{◌≡◌, IfOk, OnOk, map};
 ghost use Rattle.fluent_ast.specs.View.{entry_view};
 ghost use Rattle.fluent_places.specs.Inside.Listing.{AddsOfMessage, AddsOfTerm, AddsPlaces};
-ghost use Rattle.fluent_places.specs.Clean.{views, places_of, places_in};
+ghost use Rattle.fluent_places.specs.Places.{views, places_of, places_in};
 
 use crate::place::Place;
 use fluent_ast::ast::{Attribute, Entry, Identifier};

@@ -3,7 +3,8 @@
 ghost use Rattle.std.specs.Prelude.{◌≡◌, ◌↔◌, IfOk, OnOk, IsTrue};
 ghost use Rattle.fluent_ast.specs.View.{arguments_view, expression_view, inline_view, pattern_view};
 ghost use Rattle.fluent_ast.specs.References.{inlines_view, nameds_view, variants_view};
-ghost use Rattle.fluent_places.specs.Clean.{place_view, has_default, needs, in_expression, in_variants, in_inline, in_arguments, in_positional, in_named};
+ghost use Rattle.fluent_places.specs.Places.{place_view};
+ghost use Rattle.fluent_places.specs.Needs.{has_default, needs, in_expression, in_variants, in_inline, in_arguments, in_positional, in_named};
 ghost use Rattle.fluent_places.specs.Inside.Listing.{Appends, missing_default};
 ghost use Rattle.fluent_places.specs.NeedsView.{need_view, needs_view, IsOfPlace, Refers};
 

@@ -4,7 +4,7 @@ ghost use Rattle.std.specs.Prelude.{◌≡◌, ◌↔◌, IsTrue, map};
 ghost use Rattle.fluent_ast.specs.View.{attribute_of, attribute_view};
 ghost use Rattle.fluent_semantics.specs.Bundle.{first_of};
 ghost use Rattle.fluent_places.specs.PlaceView.{pattern_in, pattern_at, pattern_seen};
-ghost use Rattle.fluent_places.specs.Clean.{place_view};
+ghost use Rattle.fluent_places.specs.Places.{place_view};
 
 use fluent_ast::ast::{Attribute, Identifier, Pattern};
 use fluent_bundle_entries::GetEntry;
@@ -23,7 +23,7 @@ impl<'s> PartialEq for Place<'s> {
     ghost use Rattle.std.specs.Cmp.{partial_equiv_from_equiv};
     ghost use Rattle.fluent_ast.specs.Tree.{is_yes};
     ghost use Rattle.fluent_ast.specs.Same.{equivalent};
-    ghost use Rattle.fluent_places.specs.Clean.{place_same};
+    ghost use Rattle.fluent_places.specs.Places.{place_same};
 
     ghost eq = { λ a b. is_yes (place_same (place_view a) (place_view b)) };
 
@@ -37,7 +37,7 @@ impl<'s> PartialEq for Place<'s> {
 
 impl<'s> Eq for Place<'s> {
     ghost use Rattle.fluent_ast.specs.Same.{equivalent};
-    ghost use Rattle.fluent_places.specs.Clean.{place_same};
+    ghost use Rattle.fluent_places.specs.Places.{place_same};
 
     ghost laws = { equivalent place_view place_same };
 }

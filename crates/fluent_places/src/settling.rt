@@ -1,7 +1,7 @@
 //! Which variables each of some places asks for.
 
 ghost use Rattle.std.specs.Prelude.{◌≡◌, IfOk, IsTrue, OnOk};
-ghost use Rattle.fluent_places.specs.Clean.{place_view, views};
+ghost use Rattle.fluent_places.specs.Places.{place_view, views};
 ghost use Rattle.fluent_places.specs.Asked.{AreAskedIn, index_of};
 ghost use Rattle.fluent_places.specs.Inside.Sharing.{AreListed, Covers, IsOfList, Joins, Settles, TellsLeading};
 ghost use Rattle.fluent_places.specs.NeedsView.{need_view};

@@ -4,7 +4,7 @@ use Rattle.std.proofs.lemmas.List.{append_assoc, append-nil, length-drop, drop-d
 use Rattle.fluent_ast.specs.Tree.{Text}
 use Rattle.fluent_ast.specs.View.{entry_view}
 use Rattle.fluent_ast.specs.declared.ast.Entry.{Entry}
-use Rattle.fluent_places.specs.Clean.{Place, places_of, places_in}
+use Rattle.fluent_places.specs.Places.{Place, places_of, places_in}
 use Rattle.fluent_patterns.specs.Marks.{marks}
 use Rattle.fluent_patterns.specs.declared.marks.Mark.{Mark}
 use Rattle.fluent_sources.specs.Sites.{Site, sites_at, sites_from, start_of}

@@ -2,6 +2,7 @@ pub mod Causes
 pub mod Faults
 pub mod Files
 pub mod Groups
+pub mod Ids
 pub mod LineMarks
 pub mod Lined
 pub mod Parts

@@ -4,7 +4,7 @@ use Rattle.std.specs.Option.{option_map_or}
 use Rattle.std.specs.Fmt.{decimal}
 use Rattle.fluent_ast.specs.Tree.{Text}
 use Rattle.fluent_places.specs.Columns.{column_after, line_after}
-use Rattle.fluent_patterns.specs.Found.{Spot, Found}
+use Rattle.fluent_patterns.specs.Found.{Spot, Found, Problem}
 use Rattle.fluent_sources.specs.Files.{Read}
 use Rattle.fluent_sources.specs.Wording.{entry_text, text_of}
 
@@ -32,5 +32,9 @@ spot_text reads s = shown_spot (name_at reads s.file) (line_at reads s) (column_
 abbrev pub line_beside : List Read → Spot → ℕ → ℕ
 line_beside reads s at = line_at reads (record { file = s.file; at = at })
 
+-- the text of a problem at a spot, by the text of its entry
+abbrev pub problem_text : List Read → Spot → Text → Problem → Text
+problem_text reads s own p = text_of (line_beside reads s) (spot_text reads) own p
+
 abbrev pub found_text : List Read → Found → Text
-found_text reads f = text_of (line_beside reads f.spot) (spot_text reads) (entry_text f.place) f.problem
+found_text reads f = problem_text reads f.spot (entry_text f.place) f.problem

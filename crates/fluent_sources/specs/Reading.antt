@@ -37,6 +37,10 @@ pub record AreRead (reads : List Read) (sources : Sources) : Type 0 where
   pub entries : entries_read sources ≡ map (λ read. entries read.text) reads
   pub junk : junk_read sources ≡ map (λ read. junk_ranges read.text) reads
 
+-- the same were read
+abbrev pub AreSame : Sources → Sources → Type 0
+AreSame old new = (new.texts.items ≡ old.texts.items) × (new.resources.items ≡ old.resources.items) × (new.unreadable.items ≡ old.unreadable.items)
+
 -- one more was read
 abbrev pub ReadsMore : Read → Sources → Sources → Type 0
 ReadsMore read old new = (reads : List Read) → AreRead reads old → AreRead (reads ++ read ∷ []) new

@@ -2,7 +2,7 @@
 use Rattle.std.specs.Prelude.{◌≡◌, Bool, true, false, List, [], ◌∷◌, ◌++◌, Option, Some, None, bytes_eq, codes, if◌then◌else◌}
 use Rattle.std.specs.List.{list_any}
 use Rattle.fluent_ast.specs.Tree.{Text, Attribute, no_attribute, attribute}
-use Rattle.fluent_places.specs.Clean.{Place, of_message, of_term}
+use Rattle.fluent_places.specs.Places.{Place, of_message, of_term}
 use Rattle.fluent_patterns.specs.Found.{Found, whole, function_id, repeated_attribute}
 use Rattle.fluent_sources.specs.Standing.{Standing, found_at}
 

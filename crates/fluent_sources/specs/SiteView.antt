@@ -1,6 +1,6 @@
 -- Where the code says that a value or an attribute stands.
 use Rattle.std.specs.Prelude.{List, map}
-use Rattle.fluent_places.specs.Clean.{place_view}
+use Rattle.fluent_places.specs.Places.{place_view}
 use Rattle.fluent_sources.specs.Sites.{Offsets, Site}
 use Rattle.fluent_sources.specs.declared.sites.Offsets as offsets
 use Rattle.fluent_sources.specs.declared.sites.Site as code

@@ -3,7 +3,7 @@ use Rattle.std.specs.Prelude.{ℕ, Bool, true, false, not, List, [], ◌∷◌, 
 use Rattle.std.specs.List.{prefix_len}
 use Rattle.fluent_ast.specs.Tree.{Text, Entry}
 use Rattle.fluent_syntax.specs.Chunks.{entry_starts}
-use Rattle.fluent_places.specs.Clean.{Place, places_of}
+use Rattle.fluent_places.specs.Places.{Place, places_of}
 use Rattle.fluent_patterns.specs.declared.marks.What.{What}
 use Rattle.fluent_patterns.specs.declared.marks.What.TheVariants.{Attribute, Reference, Select, Variant}
 use Rattle.fluent_patterns.specs.declared.marks.Mark.{Mark}

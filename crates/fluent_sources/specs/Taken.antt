@@ -2,7 +2,7 @@
 use Rattle.std.specs.Prelude.{◌≡◌, List, [], ◌∷◌, ◌++◌, Option, Some, None, bytes_eq}
 use Rattle.std.specs.Map.{lookup}
 use Rattle.fluent_ast.specs.Tree.{Text, Attribute, no_attribute, attribute}
-use Rattle.fluent_places.specs.Clean.{Place, of_message, of_term}
+use Rattle.fluent_places.specs.Places.{Place, of_message, of_term}
 use Rattle.fluent_patterns.specs.Found.{Found, Spot, whole, taken_id}
 use Rattle.fluent_sources.specs.Standing.{Standing, found_at, spot_of}
 

@@ -3,7 +3,7 @@ use Rattle.std.specs.Prelude.{ℕ, Bool, true, false, [], ◌++◌, Option, Some
 use Rattle.std.specs.Fmt.{decimal}
 use Rattle.std.specs.Str.{bytes_eq}
 use Rattle.fluent_ast.specs.Tree.{Text, Attribute, no_attribute, attribute}
-use Rattle.fluent_places.specs.Clean.{Place, of_message, of_term}
+use Rattle.fluent_places.specs.Places.{Place, of_message, of_term}
 use Rattle.fluent_reasons.specs.ExpectedText.{expected_text}
 use Rattle.fluent_patterns.specs.Found.{Spot, Problem, unreadable, taken_id, function_id, repeated_attribute, missing_message, missing_attribute, missing_value, missing_term, missing_term_attribute, missing_function, not_a_function, cycle, too_many_placeables, may_open_too_many, leads_to, not_given, unused_argument, no_number, no_category, never_comes, repeated_variant, not_translated, value_not_translated, value_not_in_reference, not_in_reference, unknown_variable, variable_left_out, term_left_out, function_left_out}
 

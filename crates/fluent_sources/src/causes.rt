@@ -3,7 +3,7 @@
 ghost use Rattle.std.specs.Prelude.{◌≡◌, ◌+◌, [], ◌∷◌, ◌++◌, IfOk, OnOk, Some, map};
 ghost use Rattle.std.specs.Option.{option_map};
 ghost use Rattle.fluent_ast.specs.View.{attribute_of};
-ghost use Rattle.fluent_places.specs.Clean.{place_view};
+ghost use Rattle.fluent_places.specs.Places.{place_view};
 ghost use Rattle.fluent_patterns.specs.Found.{found_view, problem_view};
 ghost use Rattle.fluent_sources.specs.Causes.{attribute_or_none, cause_of, folded, folded_views, others_at, others_text, place_subject, subject_of, told_at};
 ghost use Rattle.fluent_sources.specs.Files.{Adds};
@@ -224,19 +224,4 @@ pub fn fold<'s>(alloc: Global, findings: &[Finding<'s>]) -> Result<Vec<Folded<'s
         add(finding, &counts, &mut seen, &mut list)?;
     }
     Ok(list)
-}
-
-/// Writes how many others are not told.
-///
-/// # Errors
-///
-/// An allocation failed.
-pub fn put_others(others: usize, text: &mut String) -> Result<(), AllocError>
-    ensures { OnOk result (Adds (others_text others) text.old text.new) }
-{
-    if others == 0 {
-        Ok(())
-    } else {
-        write!(text, ", and {others} more")
-    }
 }

@@ -4,13 +4,13 @@ ghost use Rattle.fluent_patterns.specs.Found.{AddsFound, found_in};
 ghost use Rattle.fluent_sources.specs.Faults.{faults_of, ids_in, ids_of};
 ghost use Rattle.fluent_sources.specs.ReadFiles.{file_view, files_read};
 
-use crate::files::{Read, add_sources};
+use crate::files::{Read, files_of};
 use crate::groups::Group;
 use crate::repeated::add_function_ids;
 use crate::source::Sources;
 use crate::standing::standings_in;
 use crate::taken::add_taken;
-use crate::unreadable::add_unreadable;
+use crate::unreadable::unreadable;
 use fluent_patterns::Finding;
 use std::alloc::{AllocError, Global};
 use std::slice;
@@ -51,10 +51,8 @@ fn add_all_ids<'s>(
 pub fn faults<'s>(alloc: Global, sources: &Sources<'s>) -> Result<Vec<Finding<'s>>, AllocError>
     ensures { IfOk result (λ found. found_in found ≡ faults_of (files_read 0 sources.now)) }
 {
-    let mut findings = Vec::new(alloc);
-    let mut files = Vec::new(alloc);
-    add_sources(alloc, sources, &mut files)?;
-    add_unreadable(alloc, files.as_slice(), &mut findings)?;
+    let files = files_of(alloc, sources)?;
+    let mut findings = unreadable(alloc, files.as_slice())?;
     add_all_ids(alloc, files.as_slice(), &mut findings)?;
     Ok(findings)
 }

@@ -1,8 +1,8 @@
 //! Files that were read.
 
-ghost use Rattle.std.specs.Prelude.{IfOk, OnOk};
+ghost use Rattle.std.specs.Prelude.{◌≡◌, IfOk, OnOk};
 ghost use Rattle.fluent_sources.specs.Parts.{AreAll};
-ghost use Rattle.fluent_sources.specs.ReadFiles.{AddsFiles};
+ghost use Rattle.fluent_sources.specs.ReadFiles.{AddsFiles, files_in, files_read};
 
 use crate::all::AllFiles;
 use crate::sites::{Site, sites_of};
@@ -20,11 +20,7 @@ pub struct Read<'a, 's> {
 }
 
 /// Adds the files of some sources. The number of each is how many stand before it.
-///
-/// # Errors
-///
-/// An allocation failed; some may be added by then.
-pub fn add_sources<'a, 's>(
+fn add_sources<'a, 's>(
     alloc: Global,
     sources: &'a Sources<'s>,
     files: &mut Vec<Read<'a, 's>>,
@@ -43,7 +39,23 @@ pub fn add_sources<'a, 's>(
     Ok(())
 }
 
-/// The files of these sources.
+/// The files of some sources.
+///
+/// # Errors
+///
+/// An allocation failed.
+pub fn files_of<'a, 's>(
+    alloc: Global,
+    sources: &'a Sources<'s>,
+) -> Result<Vec<Read<'a, 's>>, AllocError>
+    ensures { IfOk result (λ files. files_in files ≡ files_read 0 sources.now) }
+{
+    let mut files = Vec::new(alloc);
+    add_sources(alloc, sources, &mut files)?;
+    Ok(files)
+}
+
+/// The files of sources that are loaded beside others, of the others, and of their references, in one list.
 ///
 /// # Errors
 ///

@@ -2,7 +2,7 @@
 
 ghost use Rattle.std.specs.Prelude.{◌≡◌, [], IfOk, OnOk, map};
 ghost use Rattle.std.specs.Option.{option_map};
-ghost use Rattle.fluent_places.specs.Clean.{place_view};
+ghost use Rattle.fluent_places.specs.Places.{place_view};
 ghost use Rattle.fluent_patterns.specs.Found.{AddsFound};
 ghost use Rattle.fluent_sources.specs.Inside.Ids.{Repeats};
 ghost use Rattle.fluent_sources.specs.Repeated.{attribute_in, function_ids, is_function_id, repeated_attributes};
@@ -28,11 +28,7 @@ fn is_function_id(place: &Place<'_>) -> bool
 }
 
 /// Adds the entries whose id is that of the built-in function.
-///
-/// # Errors
-///
-/// An allocation failed; some may be added by then.
-pub fn add_function_ids<'s>(
+pub(crate) fn add_function_ids<'s>(
     standings: &[Standing<'_, 's>],
     findings: &mut Vec<Finding<'s>>,
 ) -> Result<(), AllocError>
@@ -79,11 +75,7 @@ fn add_at<'s>(
 }
 
 /// Adds the attributes whose entry has one of their name before.
-///
-/// # Errors
-///
-/// An allocation failed; some may be added by then.
-pub fn add_repeated<'s>(
+pub(crate) fn add_repeated<'s>(
     alloc: Global,
     standings: &[Standing<'_, 's>],
     findings: &mut Vec<Finding<'s>>,

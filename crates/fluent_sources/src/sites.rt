@@ -6,7 +6,7 @@ ghost use Rattle.fluent_sources.specs.Sites as spec;
 ghost use Rattle.fluent_sources.specs.Sites.{sites, sorted};
 ghost use Rattle.fluent_resource.specs.ResourceView.{entries_of, source_in};
 ghost use Rattle.fluent_sources.specs.SiteView.{offsets_view, site_views};
-ghost use Rattle.fluent_places.specs.Clean.{views};
+ghost use Rattle.fluent_places.specs.Places.{views};
 
 use fluent_ast::ast::Entry;
 use fluent_patterns::{Mark, What, marks_of};

@@ -1,7 +1,7 @@
 //! The texts of files, and the entries in them.
 
-ghost use Rattle.std.specs.Prelude.{[], OnOk, map};
-ghost use Rattle.fluent_sources.specs.Reading.{AreRead, ReadsMore, read_view};
+ghost use Rattle.std.specs.Prelude.{◌≡◌, [], IfOk, OnErr, OnOk, map, string_bytes};
+ghost use Rattle.fluent_sources.specs.Reading.{AreRead, AreSame, ReadsMore, read_view};
 ghost use Rattle.fluent_sources.specs.Files.{Adds, mark_line, mark_lines};
 
 use fluent_resource::{FluentResource, ParserError};
@@ -48,13 +48,20 @@ impl<'f> Sources<'f> {
     }
 
     /// Reads a source, and adds it.
+    ///
+    /// # Errors
+    ///
+    /// An allocation failed, and nothing is added.
     pub fn add(&mut self, alloc: Global, source: Source<'f>) -> Result<(), AllocError>
-        ensures { OnOk result (ReadsMore (read_view source.entry) self.old self.new) }
+        ensures added { OnOk result (ReadsMore (read_view source.entry) self.old self.new) }
+        ensures kept { OnErr result (AreSame self.old self.new) }
     {
-        self.texts.push(source)?;
         let (resource, unreadable) = FluentResource::read(alloc, source.text)?;
-        self.resources.push(resource)?;
+        self.texts.reserve(1)?;
+        self.resources.reserve(1)?;
         self.unreadable.push(unreadable)?;
+        self.resources.push(resource)?;
+        self.texts.push(source)?;
         Ok(())
     }
 }
@@ -73,12 +80,17 @@ fn say_mark(source: &Source<'_>, errors: &mut String) -> Result<(), AllocError>
     Ok(())
 }
 
-/// Says of which files a byte order mark was taken off.
-pub fn say_marks(sources: &[Source<'_>], errors: &mut String) -> Result<(), AllocError>
-    ensures { OnOk result (Adds (mark_lines (map read_view sources.now)) errors.old errors.new) }
+/// Of which files a byte order mark was taken off: a line for each.
+///
+/// # Errors
+///
+/// An allocation failed.
+pub fn mark_lines(alloc: Global, sources: &[Source<'_>]) -> Result<String, AllocError>
+    ensures { IfOk result (λ lines. string_bytes lines ≡ mark_lines (map read_view sources.now)) }
 {
+    let mut lines = String::new(alloc);
     for source in sources {
-        say_mark(source, errors)?;
+        say_mark(source, &mut lines)?;
     }
-    Ok(())
+    Ok(lines)
 }

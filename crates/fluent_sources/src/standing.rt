@@ -1,16 +1,16 @@
 //! Values and attributes of files, with the files in which they stand.
 
 ghost use Rattle.std.specs.Prelude.{◌≡◌, IfOk, OnOk, get_or, map};
-ghost use Rattle.fluent_patterns.specs.Found.{AddsFound, flaw_view, found_view, part_view, problem_view, spot_view};
+ghost use Rattle.fluent_patterns.specs.Found.{found_view, part_view, problem_view, spot_view};
 ghost use Rattle.fluent_sources.specs.Groups.{group_view, loaded};
 ghost use Rattle.fluent_sources.specs.ReadFiles.{file_view};
 ghost use Rattle.fluent_sources.specs.SiteView.{site_view};
-ghost use Rattle.fluent_sources.specs.Standing.{AddsStanding, byte_of, flaws_at, found_at, spot_of, standing_view, standings, standings_in, standings_of};
+ghost use Rattle.fluent_sources.specs.Standing.{AddsStanding, byte_of, found_at, spot_of, standing_view, standings, standings_in, standings_of};
 
 use crate::files::Read;
 use crate::groups::Group;
 use crate::sites::Site;
-use fluent_patterns::{Finding, Flaw, Part, Problem, Spot};
+use fluent_patterns::{Finding, Part, Problem, Spot};
 use std::alloc::{AllocError, Global};
 
 /// A value or an attribute, and the number of the file in which it stands.
@@ -66,25 +66,6 @@ fn nth_or(offsets: &[usize], index: usize, otherwise: usize) -> usize
         Some(offset) => *offset,
         None => otherwise,
     }
-}
-
-/// Adds a finding for each flaw of a value or an attribute.
-///
-/// # Errors
-///
-/// An allocation failed; some may be added by then.
-pub fn add_flaws<'s>(
-    standing: &Standing<'_, 's>,
-    flaws: &[Flaw<'s>],
-    findings: &mut Vec<Finding<'s>>,
-) -> Result<(), AllocError>
-    ensures { OnOk result
-        (AddsFound (flaws_at (standing_view standing.now) (map flaw_view flaws.now)) findings.old findings.new) }
-{
-    for flaw in flaws {
-        findings.push(standing.found(flaw.part, flaw.problem))?;
-    }
-    Ok(())
 }
 
 /// Adds those of a file.

@@ -2,7 +2,7 @@
 
 ghost use Rattle.std.specs.Prelude.{◌≡◌, [], OnOk, map};
 ghost use Rattle.std.specs.Option.{option_map};
-ghost use Rattle.fluent_places.specs.Clean.{place_view};
+ghost use Rattle.fluent_places.specs.Places.{place_view};
 ghost use Rattle.fluent_patterns.specs.Found.{AddsFound, spot_view};
 ghost use Rattle.fluent_sources.specs.Inside.Ids.{Takes, firsts_in};
 ghost use Rattle.fluent_sources.specs.Standing.{standing_view};
@@ -52,11 +52,7 @@ fn add_at<'s>(
 }
 
 /// Adds the entries whose id one before them has. A message and a term may share an id, since they share one map of ids.
-///
-/// # Errors
-///
-/// An allocation failed; some may be added by then.
-pub fn add_taken<'s>(
+pub(crate) fn add_taken<'s>(
     alloc: Global,
     standings: &[Standing<'_, 's>],
     findings: &mut Vec<Finding<'s>>,

@@ -2,7 +2,7 @@
 
 ghost use Rattle.std.specs.Prelude.{◌≡◌, OnOk, IfOk, map};
 ghost use Rattle.fluent_syntax.specs.Parsed.{error_range};
-ghost use Rattle.fluent_patterns.specs.Found.{AddsFound, found_view};
+ghost use Rattle.fluent_patterns.specs.Found.{AddsFound, found_in, found_view};
 ghost use Rattle.fluent_sources.specs.ReadFiles.{file_view};
 ghost use Rattle.fluent_sources.specs.Unreadable.{unreadable, unreadable_at, unreadable_in, unreadable_of};
 
@@ -73,20 +73,17 @@ fn add_unreadable_in<'s>(
     )
 }
 
-/// Adds what can't be read in files.
+/// What can't be read in files.
 ///
 /// # Errors
 ///
-/// An allocation failed; some may be added by then.
-pub fn add_unreadable<'s>(
-    alloc: Global,
-    files: &[Read<'_, '_>],
-    findings: &mut Vec<Finding<'s>>,
-) -> Result<(), AllocError>
-    ensures { OnOk result (AddsFound (unreadable (map file_view files.now)) findings.old findings.new) }
+/// An allocation failed.
+pub fn unreadable<'s>(alloc: Global, files: &[Read<'_, '_>]) -> Result<Vec<Finding<'s>>, AllocError>
+    ensures { IfOk result (λ found. found_in found ≡ unreadable (map file_view files.now)) }
 {
+    let mut findings = Vec::new(alloc);
     for file in files {
-        add_unreadable_in(alloc, file, findings)?;
+        add_unreadable_in(alloc, file, &mut findings)?;
     }
-    Ok(())
+    Ok(findings)
 }

@@ -2,13 +2,13 @@
 
 ghost use Rattle.std.specs.Prelude.{[], ◌++◌, codes, OnOk, IfOk, ◌≡◌, string_bytes};
 ghost use Rattle.fluent_ast.specs.View.{attribute_of};
-ghost use Rattle.fluent_places.specs.Clean.{place_view};
+ghost use Rattle.fluent_places.specs.Places.{place_view};
 ghost use Rattle.fluent_reasons.specs.ExpectedText.{expected_text};
 ghost use Rattle.fluent_patterns.specs.Found.{problem_view, spot_view};
 ghost use Rattle.fluent_sources.specs.Files.{Adds};
 ghost use Rattle.fluent_sources.specs.Lined.{lined_views};
-ghost use Rattle.fluent_sources.specs.Positions.{line_at, line_beside, shown_spot, spot_text};
-ghost use Rattle.fluent_sources.specs.Wording.{attribute_text, cycle_text, place_text, said_given, said_in, said_of, round_text, taken_text, text_of, too_many_text, unread_text};
+ghost use Rattle.fluent_sources.specs.Positions.{line_at, problem_text, shown_spot, spot_text};
+ghost use Rattle.fluent_sources.specs.Wording.{attribute_text, cycle_text, place_text, said_given, said_in, said_of, round_text, taken_text, too_many_text, unread_text};
 ghost use Rattle.std.specs.Fmt.{decimal};
 
 use crate::lines::Lined;
@@ -39,7 +39,7 @@ fn put_attribute(name: &Option<Identifier<'_>>, text: &mut String) -> Result<(),
 }
 
 /// Writes a place as it is written in a reference.
-pub fn put_place(place: &Place<'_>, text: &mut String) -> Result<(), AllocError>
+fn put_place(place: &Place<'_>, text: &mut String) -> Result<(), AllocError>
     ensures { OnOk result (Adds (place_text (place_view place.now)) text.old text.new) }
 {
     match place {
@@ -56,7 +56,11 @@ pub fn put_place(place: &Place<'_>, text: &mut String) -> Result<(), AllocError>
 }
 
 /// A place as it is written in a reference.
-fn text_of_place(alloc: Global, place: &Place<'_>) -> Result<String, AllocError>
+///
+/// # Errors
+///
+/// An allocation failed.
+pub fn place_text(alloc: Global, place: &Place<'_>) -> Result<String, AllocError>
     ensures { IfOk result (λ text. string_bytes text ≡ place_text (place_view place.now)) }
 {
     let mut text = String::new(alloc);
@@ -102,7 +106,7 @@ fn put_of_place(
     ensures { OnOk result
         (Adds (said_of own.now before.now (place_text (place_view place.now)) after.now) text.old text.new) }
 {
-    let place = text_of_place(alloc, place)?;
+    let place = place_text(alloc, place)?;
     put_of(own, before, place.as_str(), after, text)
 }
 
@@ -157,7 +161,7 @@ fn put_cycle(
     ensures { OnOk result
         (Adds (cycle_text own.now (place_text (place_view next.now))) text.old text.new) }
 {
-    let name = text_of_place(alloc, next)?;
+    let name = place_text(alloc, next)?;
     let shown = name.as_str();
     let is_itself = own == shown;
     put_round(is_itself, own, shown, text)
@@ -230,7 +234,7 @@ fn put_unreadable(
 }
 
 /// Writes the text of a problem, by the text of its entry.
-pub fn put_problem(
+fn put_problem(
     alloc: Global,
     files: &[Lined<'_>],
     spot: Spot,
@@ -239,8 +243,7 @@ pub fn put_problem(
     text: &mut String,
 ) -> Result<(), AllocError>
     ensures { OnOk result
-        (let reads = lined_views files.now in
-        Adds (text_of (line_beside reads (spot_view spot)) (spot_text reads) own.now (problem_view problem.now)) text.old text.new) }
+        (Adds (problem_text (lined_views files.now) (spot_view spot) own.now (problem_view problem.now)) text.old text.new) }
 {
     match *problem {
         Problem::Unreadable { start, expected } => put_unreadable(
@@ -362,4 +365,24 @@ pub fn put_problem(
             text,
         ),
     }
+}
+
+/// The text of a problem at a spot, by the text of its entry.
+///
+/// # Errors
+///
+/// An allocation failed.
+pub fn problem_text(
+    alloc: Global,
+    files: &[Lined<'_>],
+    spot: Spot,
+    own: &str,
+    problem: &Problem<'_>,
+) -> Result<String, AllocError>
+    ensures { IfOk result (λ text. string_bytes text
+        ≡ problem_text (lined_views files.now) (spot_view spot) own.now (problem_view problem.now)) }
+{
+    let mut text = String::new(alloc);
+    put_problem(alloc, files, spot, own, problem, &mut text)?;
+    Ok(text)
 }

@@ -1,12 +1,11 @@
 -- How a report is written.
-use Rattle.std.specs.Prelude.{◌≡◌, Bool, true, false, List, [], String}
-use Rattle.std.proofs.Common.{Global}
+use Rattle.std.specs.Prelude.{◌≡◌, Bool, true, false, List, [], string_bytes}
 use Rattle.fluent_patterns.specs.Found.{found_in}
-use Rattle.fluent_sources.specs.Files.{Adds, Read}
+use Rattle.fluent_sources.specs.Files.{Read}
 use Rattle.fluent_check.specs.declared.checking.Found.{Found}
 use Rattle.fluent_cli_report.specs.Reported.{Manner}
 use Rattle.fluent_cli_report.specs.Rows.{errors_in, rows_of, warnings_in}
-use Rattle.fluent_cli_report.specs.declared.rows.Counts.{Counts}
+use Rattle.fluent_cli_report.specs.declared.report.Written.{Written}
 use Rattle.fluent_cli_words.specs.declared.request.Format.{Format}
 use Rattle.fluent_cli_words.specs.declared.request.Format.TheVariants as format
 use Rattle.fluent_c_check.specs.Checks.{told_in}
@@ -25,8 +24,8 @@ manner_in json = record {
   strict = true;
 }
 
--- What is found was written, and there is so much of it.
-pub record WritesAll (json : Bool) (reads : List Read) (found : Found) (old new : String Global) (counts : Counts) : Type 0 where
-  pub written : Adds (told_in json (rows_of reads [] (found_in found.findings))) old new
-  pub errors : counts.errors ≡ errors_in (rows_of reads [] (found_in found.findings))
-  pub warnings : counts.warnings ≡ warnings_in (rows_of reads [] (found_in found.findings))
+-- What is found is written, and there is so much of it.
+pub record TellsAll (json : Bool) (reads : List Read) (found : Found) (written : Written) : Type 0 where
+  pub text : string_bytes written.text ≡ told_in json (rows_of reads [] (found_in found.findings))
+  pub errors : written.counts.errors ≡ errors_in (rows_of reads [] (found_in found.findings))
+  pub warnings : written.counts.warnings ≡ warnings_in (rows_of reads [] (found_in found.findings))

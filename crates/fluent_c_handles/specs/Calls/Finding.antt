@@ -11,7 +11,7 @@ use Rattle.fluent_semantics.specs.Bundle.{Bundle}
 use Rattle.fluent_bundle_entries.specs.MessageView.{Content}
 use Rattle.fluent_bundle.specs.BundleView.{message_at}
 use Rattle.fluent_places.specs.Asked.{AreAsked}
-use Rattle.fluent_places.specs.Clean.{Names, Place, names_of, of_message}
+use Rattle.fluent_places.specs.Places.{Names, Place, names_of, of_message}
 use Rattle.fluent_c_handles.specs.Answers.{BundleCall, IsOneText, found_at, unanswered}
 use Rattle.fluent_c_handles.specs.declared.answer.Answer.TheVariants as answer
 use Rattle.fluent_c_handles.specs.declared.sources.SourceFault.TheVariants as source_fault

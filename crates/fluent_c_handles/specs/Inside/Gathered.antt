@@ -5,7 +5,7 @@ use Rattle.std.specs.BTreeSet.{BTreeSet}
 use Rattle.fluent_ast.specs.Tree.{Text, Entry, message_entry, term_entry, junk_entry}
 use Rattle.fluent_semantics.specs.Arguments.{Map, set}
 use Rattle.fluent_semantics.specs.Bundle.{Bundle}
-use Rattle.fluent_places.specs.Clean.{IsAmong}
+use Rattle.fluent_places.specs.Needs.{IsAmong}
 use Rattle.fluent_c_handles.specs.Calls.Finding.{names_message}
 
 -- ids, each once, in the order of their bytes

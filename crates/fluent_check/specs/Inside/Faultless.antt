@@ -3,7 +3,7 @@ use Rattle.std.specs.Prelude.{List, [], ◌∷◌, ◌++◌}
 use Rattle.std.specs.List.{AllByRecursion}
 use Rattle.fluent_ast.specs.Tree.{Text}
 use Rattle.fluent_semantics.specs.Bundle.{Bundle}
-use Rattle.fluent_places.specs.Clean.{names_of}
+use Rattle.fluent_places.specs.Places.{names_of}
 use Rattle.fluent_check.specs.Called.{with_functions}
 use Rattle.fluent_sources.specs.Groups.{Group, loaded}
 use Rattle.fluent_check.specs.Languages.{all_of}

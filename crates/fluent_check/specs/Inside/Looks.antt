@@ -6,8 +6,8 @@ use Rattle.std.proofs.Common.{Global}
 use Rattle.fluent_ast.specs.Tree.{Text}
 use Rattle.fluent_semantics.specs.Bundle.{Bundle}
 use Rattle.fluent_places.specs.Asked.{texts}
-use Rattle.fluent_places.specs.Clean.{Place, Names}
-use Rattle.fluent_places.specs.declared.finding.Finding as lint
+use Rattle.fluent_places.specs.Places.{Place, Names}
+use Rattle.fluent_clean.specs.declared.finding.Finding as lint
 use Rattle.fluent_patterns.specs.Categories.{Categories}
 use Rattle.fluent_patterns.specs.Found as found
 use Rattle.fluent_patterns.specs.Found.{found_in}

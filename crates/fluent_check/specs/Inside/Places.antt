@@ -2,8 +2,8 @@
 use Rattle.std.specs.Prelude.{◌≡◌, ℕ, List, ◌∷◌, ◌++◌, map, Option, Some, None, position, slice_get}
 use Rattle.std.specs.Option.{option_and_then}
 use Rattle.fluent_ast.specs.Tree.{Text}
-use Rattle.fluent_places.specs.Clean.{Place, Names}
-use Rattle.fluent_check.specs.Among.{same_place}
+use Rattle.fluent_places.specs.Places.{Place, Names}
+use Rattle.fluent_differences.specs.Among.{same_place}
 use Rattle.fluent_check.specs.Places.{first_places, keys_of, place_of}
 use Rattle.fluent_sources.specs.Standing.{Standing, standings}
 use Rattle.fluent_check.specs.declared.places.Places.{Places}

@@ -3,7 +3,7 @@ use Rattle.std.specs.Prelude.{List, [], ◌∷◌, ◌++◌, flat_map, Option, S
 use Rattle.std.specs.Borrow.{Bor}
 use Rattle.fluent_ast.specs.Tree.{Text}
 use Rattle.fluent_places.specs.Asked.{list_of, texts}
-use Rattle.fluent_places.specs.Clean.{Place}
+use Rattle.fluent_places.specs.Places.{Place}
 use Rattle.fluent_places.specs.declared.asked.Asked.{Asked}
 use Rattle.fluent_sources.specs.Wording.{place_text}
 use Rattle.fluent_cli.specs.Listed.{variable_text}

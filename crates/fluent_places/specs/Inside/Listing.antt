@@ -6,7 +6,8 @@ use Rattle.fluent_ast.specs.View.{attribute_view}
 use Rattle.fluent_ast.specs.declared.ast.Attribute as of_attribute
 use Rattle.fluent_ast.specs.declared.ast.Identifier.{Identifier}
 use Rattle.fluent_ast.specs.declared.ast.Variant as of_variant
-use Rattle.fluent_places.specs.Clean.{Place, of_message, of_term, views, attribute_places, Need, a_default, has_default, unless}
+use Rattle.fluent_places.specs.Places.{Place, of_message, of_term, views, attribute_places}
+use Rattle.fluent_places.specs.Needs.{Need, a_default, has_default, unless}
 use Rattle.fluent_places.specs.NeedsView.{needs_view}
 use Rattle.fluent_places.specs.declared.listing.Need as need
 use Rattle.fluent_places.specs.declared.place.Place as place

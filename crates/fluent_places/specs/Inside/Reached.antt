@@ -6,7 +6,8 @@ use denote.Triple.Both.{Both}
 use Rattle.indexmap.specs.IndexSet.{IndexSet}
 use Rattle.fluent_ast.specs.Tree.{Text, Attribute}
 use Rattle.fluent_semantics.specs.Bundle.{Target, unknown, without_value, found}
-use Rattle.fluent_places.specs.Clean.{Place, of_message, place_view, views, Names, place_target, Need, a_message, a_variable, needs, IsAmong}
+use Rattle.fluent_places.specs.Places.{Place, of_message, place_view, views, Names, place_target}
+use Rattle.fluent_places.specs.Needs.{Need, a_message, a_variable, needs, IsAmong}
 use Rattle.fluent_places.specs.Asked.{AsksForAt, AreAsked, AreDistinct, texts}
 use Rattle.fluent_places.specs.declared.place.Place as code
 

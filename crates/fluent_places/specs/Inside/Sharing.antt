@@ -2,7 +2,8 @@
 use Rattle.std.specs.Prelude.{◌≡◌, ℕ, Bool, List, [], ◌∷◌, Some, IsTrue, cond}
 use Rattle.std.specs.Borrow.{Bor}
 use Rattle.fluent_ast.specs.Tree.{Text, is_yes}
-use Rattle.fluent_places.specs.Clean.{Place, place_same, place_view, views, Names, Need, IsAmong}
+use Rattle.fluent_places.specs.Places.{Place, place_same, place_view, views, Names}
+use Rattle.fluent_places.specs.Needs.{Need, IsAmong}
 use Rattle.fluent_places.specs.Asked.{AsksForAt, AreAsked, AreDistinct, texts, index_of, list_at}
 use Rattle.fluent_places.specs.Inside.Reached.{IsReference, needs_at}
 use Rattle.fluent_places.specs.declared.asked.Asked.{Asked}

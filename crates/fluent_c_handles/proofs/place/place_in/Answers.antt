@@ -2,7 +2,7 @@ use Rattle.std.proofs.Common.{◌≡◌, ◌∙◌, ◌==◌, Bool, true, false,
 use Rattle.fluent_ast.specs.Tree.{Text, Attributes, Pattern, attribute}
 use Rattle.fluent_semantics.specs.Number.{is_text}
 use Rattle.fluent_bundle_entries.specs.MessageView.{first_named}
-use Rattle.fluent_places.specs.Clean.{of_message}
+use Rattle.fluent_places.specs.Places.{of_message}
 use Rattle.fluent_c_handles.specs.Calls.Finding.{place_at}
 use Rattle.fluent_c_handles.proofs.Family.{same_text}
 use Rattle.fluent_c_handles.proofs.place.place_in.Goals as goal

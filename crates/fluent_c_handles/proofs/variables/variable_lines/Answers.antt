@@ -1,7 +1,7 @@
 use Rattle.std.proofs.Common.{[], subst}
 use Rattle.std.proofs.lemmas.Result.{IfOk-weaker}
 use Rattle.fluent_places.specs.Asked.{texts}
-use Rattle.fluent_places.specs.Clean.{place_view}
+use Rattle.fluent_places.specs.Places.{place_view}
 use Rattle.fluent_c_handles.specs.Answers.{bundle_view, declared_view}
 use Rattle.fluent_c_handles.specs.Inside.Gathered.{HaveSame, texts_of}
 use Rattle.fluent_c_handles.proofs.Asked.{lists_asked}

@@ -1,6 +1,6 @@
 use Rattle.std.proofs.Common.{◌≡◌, ◌∙◌, ap, length, map, refl, sym}
 use Rattle.std.proofs.lemmas.List.{length-map}
-use Rattle.fluent_places.specs.Clean.{names_of}
+use Rattle.fluent_places.specs.Places.{names_of}
 use Rattle.fluent_check.specs.Bundles.{bundle_view}
 use Rattle.fluent_check.specs.Differences.{edition_view, reference_names, reference_places}
 use Rattle.fluent_sources.specs.Groups.{group_view, loaded}

@@ -1,5 +1,5 @@
 use Rattle.std.proofs.Common.{◌≡◌, ◌∙◌, ◌++◌, ap, length, map}
-use Rattle.fluent_patterns.specs.Found.{found_in, found_view}
+use Rattle.fluent_patterns.specs.Found.{found_in}
 use Rattle.fluent_check.specs.Faultless.{tag_of}
 use Rattle.fluent_sources.specs.Groups.{all_in, groups_of, read_group}
 use Rattle.fluent_check.specs.Looks.{found_in_looks}
@@ -13,10 +13,8 @@ returns-clause-found c =
     let settings = c.args.settings.now in
     let g = read_group c.args.beside.now c.args.sources.now c.args.references.now in
     let looks = c.in_ok-is_clean.ensures.looks in
-    let junk : found_in c.add_unreadable.new.findings ≡ unreadable (all_in g) =
-    c.in_ok-add_unreadable.ensures
-    ∙ (ap (λ l. map found_view l ++ unreadable (map file_view c.as_slice.result.now)) c.new-findings.ensures.items
-    ∙ ap unreadable (ap (map file_view) c.as_slice.ensures.value ∙ c.in_ok-files.ensures.all)) in
+    let junk : found_in c.in_ok-findings.findings ≡ unreadable (all_in g) =
+    c.in_ok-findings.ensures ∙ ap unreadable (ap (map file_view) c.as_slice.ensures.value ∙ c.in_ok-files.ensures.all) in
     record {
       looks = looks.looks;
       groups = looks.groups ∙ ap (groups_of settings.grouping) (c.of_all-all.ensures ∙ c.in_ok-files.ensures.parts);

@@ -1,5 +1,5 @@
 use Rattle.std.proofs.Common.{◌≡◌, ◌++◌, drop, map}
-use Rattle.fluent_places.specs.Clean.{views}
+use Rattle.fluent_places.specs.Places.{views}
 use Rattle.fluent_check.specs.Linted.{places_of}
 use Rattle.fluent_sources.specs.ReadFiles.{entries_in, file_view}
 use Rattle.fluent_check.proofs.linted.add_places.Given as goal

@@ -1,7 +1,7 @@
 use Rattle.std.proofs.Common.{◌++◌, ap, map, ◌∙◌}
 use Rattle.std.proofs.lemmas.List.{map-append}
 use Rattle.fluent_ast.specs.View.{entry_view}
-use Rattle.fluent_places.specs.Clean.{place_view, places_in, views}
+use Rattle.fluent_places.specs.Places.{place_view, places_in, views}
 use Rattle.fluent_check.proofs.linted.add_places_of.Goals as goal
 
 pub returns : goal.returns

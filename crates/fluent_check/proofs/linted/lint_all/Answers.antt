@@ -1,6 +1,6 @@
 use Rattle.std.proofs.Common.{◌≡◌, ◌∙◌, List, ap, sym}
 use Rattle.fluent_ast.specs.Tree.{Entry}
-use Rattle.fluent_places.specs.Clean.{views}
+use Rattle.fluent_places.specs.Places.{views}
 use Rattle.fluent_check.specs.Bundles.{bundle_view}
 use Rattle.fluent_sources.specs.Groups.{entries_loaded, group_view}
 use Rattle.fluent_check.specs.Linted.{is_none}

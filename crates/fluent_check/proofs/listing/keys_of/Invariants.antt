@@ -1,5 +1,5 @@
 use Rattle.std.proofs.Common.{◌≡◌, ◌++◌, drop}
-use Rattle.fluent_places.specs.Clean.{views}
+use Rattle.fluent_places.specs.Places.{views}
 use Rattle.fluent_check.proofs.listing.keys_of.Given as goal
 
 abbrev pub invariant-loop-place : goal.invariant-loop-place

@@ -1,6 +1,6 @@
 use Rattle.std.proofs.Common.{◌≡◌, ◌++◌, drop, map}
 use Rattle.fluent_places.specs.Asked.{texts}
-use Rattle.fluent_places.specs.Clean.{names_of}
+use Rattle.fluent_places.specs.Places.{names_of}
 use Rattle.fluent_check.specs.Bundles.{bundle_view}
 use Rattle.fluent_check.specs.Patterns.{called_in}
 use Rattle.fluent_sources.specs.Standing.{standing_view}

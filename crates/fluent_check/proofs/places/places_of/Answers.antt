@@ -1,6 +1,6 @@
 use Rattle.std.proofs.Common.{◌+◌, ◌++◌, ◌∷◌, List, ◌∙◌, ap, drop, map, sym}
 use Rattle.std.proofs.lemmas.List.{append-nil, at_drop_all, at_drop_more}
-use Rattle.fluent_places.specs.Clean.{names_of, views}
+use Rattle.fluent_places.specs.Places.{names_of, views}
 use Rattle.fluent_check.specs.Bundles.{bundle_view}
 use Rattle.fluent_check.specs.Places.{first_places, keys_of, place_of}
 use Rattle.fluent_sources.specs.Standing.{standing_view, standings}

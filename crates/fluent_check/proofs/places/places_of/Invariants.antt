@@ -1,5 +1,5 @@
 use Rattle.std.proofs.Common.{◌≡◌, ◌++◌, drop, map}
-use Rattle.fluent_places.specs.Clean.{names_of}
+use Rattle.fluent_places.specs.Places.{names_of}
 use Rattle.fluent_check.specs.Bundles.{bundle_view}
 use Rattle.fluent_check.specs.Places.{first_places, keys_of, place_of, places_of}
 use Rattle.fluent_sources.specs.Standing.{standing_view, standings}

@@ -17,6 +17,6 @@ returns c =
     let flaws : map flaw_view c.as_slice.result.now ≡ both ++ alone (side_of reference) (side_of translation) =
     ap (map flaw_view) c.as_slice.ensures.value
     ∙ (c.in_ok-add_unreferenced.ensures
-    ∙ (ap (λ l. l ++ alone (side_view c.side.result) (side_view c.side-2.result)) (c.in_ok-add_if_both.ensures ∙ ap (λ l. map flaw_view l ++ both) c.new-flaws.ensures.items)
+    ∙ (ap (λ l. l ++ alone (side_view c.side.result) (side_view c.side-2.result)) c.in_ok-flaws.ensures
     ∙ (ap (λ r. both ++ alone r (side_view c.side-2.result)) c.side.ensures ∙ ap (λ t. both ++ alone (side_of reference) t) c.side-2.ensures))) in
     subst (λ l. OnOk c.add_flaws.result (AddsFound (flaws_at s l) c.args.findings.now c.add_flaws.new.findings)) flaws c.add_flaws.ensures

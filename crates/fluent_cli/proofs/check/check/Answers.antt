@@ -9,5 +9,5 @@ returns c =
     let inputs = c.args.inputs.now in
     let unread = unread_views c.args.unread.now in
     let found = c.in_ok-found.found in
-    IfOk-weaker c.report.result (IsReported request inputs unread found) (IsChecked request inputs unread)
-    (λ answer reported. record { found = found; finds = c.in_ok-found.ensures; reported = reported }) c.report.ensures
+    IfOk-weaker c.reported.result (IsReported request inputs unread found) (IsChecked request inputs unread)
+    (λ answer reported. record { found = found; finds = c.in_ok-found.ensures; reported = reported }) c.reported.ensures

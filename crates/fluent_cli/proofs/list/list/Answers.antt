@@ -1,5 +1,5 @@
 use Rattle.std.proofs.Common.{◌≡◌, ◌∙◌, ap, flat_map, refl, rules, string_bytes, subst, sym}
-use Rattle.fluent_places.specs.Clean.{views}
+use Rattle.fluent_places.specs.Places.{views}
 use Rattle.fluent_check.specs.Listed.{listed_names, listed_places}
 use Rattle.fluent_sources.specs.ReadFiles.{files_read}
 use Rattle.fluent_cli.specs.Inside.Listing.{line_by}

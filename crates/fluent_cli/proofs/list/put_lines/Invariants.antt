@@ -1,5 +1,5 @@
 use Rattle.std.proofs.Common.{◌≡◌, ◌++◌, drop, flat_map, string_bytes}
-use Rattle.fluent_places.specs.Clean.{views}
+use Rattle.fluent_places.specs.Places.{views}
 use Rattle.fluent_cli.specs.Inside.Listing.{line_by}
 use Rattle.fluent_cli.proofs.list.put_lines.Given as goal
 

@@ -12,17 +12,17 @@ returns c =
     let inputs = c.args.inputs.now in
     let unread = unread_views c.args.unread.now in
     let given = c.in_ok-given.given in
-    let noted : string_bytes c.say_unread.new.errors ≡ unread_lines unread = search rules in
     let texts : map read_view c.as_slice.result.now ≡ texts_in inputs = ap (map read_view) c.as_slice.ensures.value ∙ c.in_ok-texts.ensures in
-    let marks : string_bytes c.say_marks.new.errors ≡ unread_lines unread ++ mark_lines (texts_in inputs) =
-    c.in_ok-say_marks.ensures ∙ (ap (λ t. t ++ mark_lines (map read_view c.as_slice.result.now)) noted ∙ ap (λ reads. unread_lines unread ++ mark_lines reads) texts) in
-    let pushed : string_bytes c.push_str.new.self ≡ string_bytes c.say_marks.new.errors ++ string_bytes given.errors = search rules in
+    let marks : string_bytes c.push_str.new.self ≡ unread_lines unread ++ mark_lines (map read_view c.as_slice.result.now) = search rules in
+    let marked : string_bytes c.push_str.new.self ≡ unread_lines unread ++ mark_lines (texts_in inputs) =
+    marks ∙ ap (λ reads. unread_lines unread ++ mark_lines reads) texts in
+    let pushed : string_bytes c.push_str-2.new.self ≡ string_bytes c.push_str.new.self ++ string_bytes given.errors = search rules in
     record {
       given = given;
       gives = c.in_ok-given.ensures;
       leaves = record {
         status = c.status_after.ensures ∙ (ap (λ whole. status_by_whole whole given.status) c.is_empty.ensures ∙ ap (λ n. status_by_whole (n == 0) given.status) (sym (length-map c.args.unread.now unread_view)));
         output = refl;
-        errors = pushed ∙ ap (λ t. t ++ string_bytes given.errors) marks;
+        errors = pushed ∙ ap (λ t. t ++ string_bytes given.errors) marked;
       };
     }

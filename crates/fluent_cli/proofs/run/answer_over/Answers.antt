@@ -10,9 +10,8 @@ returns-then-is_lost c =
     let inputs = c.args.inputs.now in
     let unread = unread_views c.args.unread.now in
     let lost : true ≡ is_lost request inputs unread = sym c.if-is_lost.true ∙ c.is_lost.ensures in
-    let said : string_bytes c.say_unread.new.errors ≡ unread_lines unread = search rules in
     subst (λ lost. GivesBy lost request inputs unread c.says.result) lost
-    (record { status = c.says.ensures.status; output = c.says.ensures.output; errors = c.says.ensures.errors ∙ said })
+    (record { status = c.says.ensures.status; output = c.says.ensures.output; errors = c.says.ensures.errors ∙ c.in_ok-errors.ensures })
 
 pub returns : goal.returns
 returns c =

@@ -1,4 +1,4 @@
-use Rattle.std.proofs.Common.{◌≡◌, ◌∙◌, ◌++◌, ap, append_assoc, string_bytes}
+use Rattle.std.proofs.Common.{◌≡◌, ◌∙◌, ◌++◌, ap, append_assoc, rules, string_bytes}
 use Rattle.fluent_resolver_state.specs.Status.{reported}
 use Rattle.fluent_cli_report.specs.Reported.{fault_lines}
 use Rattle.fluent_cli.specs.Shown.{error_lines, missing_line}
@@ -10,6 +10,5 @@ returns c =
     let own = fault_lines c.args.inputs.now.sources in
     let errors = error_lines (reported c.args.errors.now) in
     let missing = missing_line c.args.request.now c.args.is_there in
-    let first : string_bytes c.say_faults.new.errors ≡ beside = c.in_ok-say_faults.ensures ∙ ap (λ t. t ++ beside) c.new-said.ensures.bytes in
-    let faults : string_bytes c.say_faults-2.new.errors ≡ beside ++ own = c.in_ok-say_faults-2.ensures ∙ ap (λ t. t ++ own) first in
+    let faults : string_bytes c.push_str.new.self ≡ beside ++ own = search rules in
     c.in_ok-say_missing.ensures ∙ (ap (λ t. t ++ missing) (c.in_ok-say_errors.ensures ∙ ap (λ t. t ++ errors) faults) ∙ append_assoc (beside ++ own) errors missing)

@@ -2,7 +2,7 @@ use Rattle.std.proofs.Common.{ap, ◌∙◌}
 use Rattle.fluent_ast.specs.Tree.{Text}
 use Rattle.fluent_semantics.specs.Bundle.{Bundle}
 use Rattle.fluent_bundle.specs.BundleView.{meant}
-use Rattle.fluent_places.specs.Clean.{views}
+use Rattle.fluent_places.specs.Places.{views}
 use Rattle.fluent_lint.proofs.Linted.{linted}
 use Rattle.fluent_lint.proofs.linting.lint.Goals as goal
 

@@ -1,5 +1,5 @@
 use Rattle.std.proofs.Common.{◌≡◌, take}
-use Rattle.fluent_places.specs.Clean.{views}
+use Rattle.fluent_places.specs.Places.{views}
 use Rattle.fluent_lint.specs.Lints.{places_in_resources}
 use Rattle.fluent_lint.proofs.sources.places_in.Given as goal
 

@@ -1,6 +1,6 @@
 use Rattle.std.proofs.Common.{◌≡◌, ◌++◌, drop, map}
 use Rattle.fluent_places.specs.Asked.{texts}
-use Rattle.fluent_places.specs.Clean.{place_view}
+use Rattle.fluent_places.specs.Places.{place_view}
 use Rattle.fluent_patterns.specs.Found.{problem_view}
 use Rattle.fluent_patterns.specs.Terms.{not_givens}
 use Rattle.fluent_patterns.proofs.terms.add_not_given.Given as goal

@@ -1,6 +1,6 @@
 use Rattle.std.proofs.Common.{◌≡◌, ◌++◌, drop, map}
 use Rattle.fluent_places.specs.Asked.{texts}
-use Rattle.fluent_places.specs.Clean.{place_view}
+use Rattle.fluent_places.specs.Places.{place_view}
 use Rattle.fluent_patterns.specs.Found.{problem_view}
 use Rattle.fluent_patterns.specs.Names.{is_one_of}
 use Rattle.fluent_patterns.specs.Terms.{unuseds}

@@ -1,6 +1,6 @@
 use Rattle.std.proofs.Common.{◌≡◌, ◌∙◌, None, map, rules}
 use Rattle.fluent_places.specs.Asked.{list_of, texts}
-use Rattle.fluent_places.specs.Clean.{place_view}
+use Rattle.fluent_places.specs.Places.{place_view}
 use Rattle.fluent_patterns.specs.Found.{problem_view}
 use Rattle.fluent_patterns.specs.Terms.{not_givens}
 use Rattle.fluent_patterns.proofs.Kept.{nothing_unused}

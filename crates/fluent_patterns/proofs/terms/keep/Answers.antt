@@ -1,6 +1,6 @@
 use Rattle.std.proofs.Common.{refl}
 use Rattle.fluent_ast.specs.View.{pattern_view}
-use Rattle.fluent_places.specs.Clean.{place_view}
+use Rattle.fluent_places.specs.Places.{place_view}
 use Rattle.fluent_patterns.proofs.Kept.{kept_after, shown_by}
 use Rattle.fluent_patterns.proofs.terms.keep.Goals as goal
 

@@ -1,7 +1,7 @@
 use Rattle.std.proofs.Common.{◌≡◌, ◌++◌, drop}
 use Rattle.fluent_ast.specs.References.{nameds_view}
 use Rattle.fluent_places.specs.Asked.{texts}
-use Rattle.fluent_places.specs.Clean.{names_in}
+use Rattle.fluent_places.specs.Needs.{names_in}
 use Rattle.fluent_patterns.proofs.terms.names_in.Given as goal
 
 abbrev pub invariant-loop-argument : goal.invariant-loop-argument

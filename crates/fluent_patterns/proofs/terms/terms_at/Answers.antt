@@ -1,4 +1,4 @@
-use Rattle.fluent_places.specs.Clean.{views}
+use Rattle.fluent_places.specs.Places.{views}
 use Rattle.fluent_patterns.proofs.Told.{all_told}
 use Rattle.fluent_patterns.proofs.terms.terms_at.Goals as goal
 

@@ -1,5 +1,5 @@
 use Rattle.fluent_ast.specs.Tree.{is_yes}
-use Rattle.fluent_places.specs.Clean.{place_same, place_view}
+use Rattle.fluent_places.specs.Places.{place_same, place_view}
 use Rattle.fluent_places.proofs.Gathering.{adds_inserted, place_test}
 use Rattle.fluent_places.proofs.asking.add_place.Goals as goal
 

@@ -1,6 +1,6 @@
 use Rattle.std.proofs.Common.{◌-◌, ◌^◌}
 use Rattle.fluent_places.specs.Asked.{texts}
-use Rattle.fluent_places.specs.Clean.{place_view, views}
+use Rattle.fluent_places.specs.Places.{place_view, views}
 use Rattle.fluent_places.specs.Inside.Reached.{Gathered}
 use Rattle.fluent_places.proofs.asking.gather.Given as goal
 

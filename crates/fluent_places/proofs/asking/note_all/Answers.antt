@@ -1,6 +1,6 @@
 use Rattle.std.proofs.Common.{ap}
 use Rattle.fluent_places.specs.Asked.{texts}
-use Rattle.fluent_places.specs.Clean.{views}
+use Rattle.fluent_places.specs.Places.{views}
 use Rattle.fluent_places.specs.NeedsView.{need_view}
 use Rattle.fluent_places.proofs.Gathering.{notes_as, notes_default, notes_function, notes_message, notes_next, notes_term, notes_variable}
 use Rattle.fluent_places.proofs.asking.note_all.Goals as goal

@@ -1,6 +1,6 @@
 use Rattle.std.proofs.Common.{map, take}
 use Rattle.fluent_places.specs.Asked.{texts}
-use Rattle.fluent_places.specs.Clean.{views}
+use Rattle.fluent_places.specs.Places.{views}
 use Rattle.fluent_places.specs.NeedsView.{need_view}
 use Rattle.fluent_places.specs.Inside.Reached.{NotesOf}
 use Rattle.fluent_places.proofs.asking.note_all.Given as goal

@@ -1,11 +1,11 @@
 use Rattle.std.proofs.Common.{ap, map, sym, subst, ◌∙◌}
 use Rattle.fluent_semantics.specs.Bundle.{Target}
-use Rattle.fluent_places.specs.Clean.{place_view, views, place_target}
+use Rattle.fluent_places.specs.Places.{place_view, views, place_target}
 use Rattle.fluent_places.specs.Asked.{texts}
 use Rattle.fluent_places.specs.NeedsView.{need_view}
 use Rattle.fluent_places.specs.Inside.Reached.{NotesOf}
 use Rattle.fluent_places.proofs.Gathering.{notes_none, none_there, all_noted}
-use Rattle.fluent_places.proofs.Explained.{some_there}
+use Rattle.fluent_places.specs.Facts.Targets.{some_there}
 use Rattle.fluent_places.proofs.asking.note_pattern.Goals as goal
 
 pub returns-in_default : goal.returns-in_default

@@ -1,6 +1,6 @@
 use Rattle.std.proofs.Common.{◌≡◌, rules, sym, subst}
 use Rattle.fluent_places.specs.Asked.{AreAsked, texts}
-use Rattle.fluent_places.specs.Clean.{place_view}
+use Rattle.fluent_places.specs.Places.{place_view}
 use Rattle.fluent_places.proofs.asking.variables_of.Goals as goal
 
 pub returns-clause-asked : goal.returns-clause-asked

@@ -1,5 +1,5 @@
 use Rattle.std.proofs.Common.{refl}
-use Rattle.fluent_places.specs.Clean.{of_message}
+use Rattle.fluent_places.specs.Places.{of_message}
 use Rattle.fluent_places.proofs.PlaceLists.{attribute_more, attributes_end}
 use Rattle.fluent_places.proofs.entries.add_of_message.Goals as goal
 

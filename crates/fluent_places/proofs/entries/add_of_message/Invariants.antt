@@ -1,6 +1,6 @@
 use Rattle.std.proofs.Common.{◌≡◌, ◌++◌, drop, map}
 use Rattle.fluent_ast.specs.View.{attribute_view}
-use Rattle.fluent_places.specs.Clean.{of_message, views, attribute_places}
+use Rattle.fluent_places.specs.Places.{of_message, views, attribute_places}
 use Rattle.fluent_places.proofs.entries.add_of_message.Given as goal
 
 abbrev pub invariant-loop-attribute : goal.invariant-loop-attribute

@@ -1,5 +1,5 @@
 use Rattle.std.proofs.Common.{refl}
-use Rattle.fluent_places.specs.Clean.{of_term}
+use Rattle.fluent_places.specs.Places.{of_term}
 use Rattle.fluent_places.proofs.PlaceLists.{attribute_more, attributes_end}
 use Rattle.fluent_places.proofs.entries.add_of_term.Goals as goal
 

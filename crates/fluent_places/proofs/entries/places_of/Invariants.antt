@@ -1,6 +1,6 @@
 use Rattle.std.proofs.Common.{◌≡◌, ◌++◌, drop, map}
 use Rattle.fluent_ast.specs.View.{entry_view}
-use Rattle.fluent_places.specs.Clean.{views, places_in}
+use Rattle.fluent_places.specs.Places.{views, places_in}
 use Rattle.fluent_places.proofs.entries.places_of.Given as goal
 
 abbrev pub invariant-loop-entry : goal.invariant-loop-entry

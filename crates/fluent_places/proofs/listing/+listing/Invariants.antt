@@ -2,7 +2,7 @@ use Rattle.std.proofs.Common.{◌≡◌, ◌++◌, drop, map}
 use Rattle.fluent_ast.specs.Tree.{pattern_of}
 use Rattle.fluent_ast.specs.View.{element_view}
 use Rattle.fluent_ast.specs.References.{variants_view, inlines_view, nameds_view}
-use Rattle.fluent_places.specs.Clean.{needs, in_variants, in_positional, in_named}
+use Rattle.fluent_places.specs.Needs.{needs, in_variants, in_positional, in_named}
 use Rattle.fluent_places.specs.NeedsView.{needs_view}
 use Rattle.fluent_places.proofs.listing.+listing.Given as goal
 

@@ -2,9 +2,10 @@ use mathlib.Core.Bool.{true≢false}
 use Rattle.std.proofs.Common.{◌≡◌, map, inl, inr, refl, sym, ap, subst, ◌∙◌, arith}
 use Rattle.std.proofs.lemmas.List.{take_all}
 use Rattle.fluent_ast.specs.View.{pattern_view}
-use Rattle.fluent_places.specs.Clean.{place_view, needs, IsAmong}
+use Rattle.fluent_places.specs.Places.{place_view}
+use Rattle.fluent_places.specs.Needs.{needs, IsAmong}
 use Rattle.fluent_places.specs.NeedsView.{need_view, IsOfPlace, RefersIn}
-use Rattle.fluent_places.proofs.Growing.{among_at, so_far}
+use Rattle.fluent_places.specs.Facts.Growing.{among_at, so_far}
 use Rattle.fluent_places.proofs.listing.refers_to.Goals as goal
 
 pub loop-need-preserved : goal.loop-need-preserved

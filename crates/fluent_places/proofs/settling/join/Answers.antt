@@ -1,6 +1,7 @@
 use Rattle.std.proofs.Common.{sym, ap, ◌∙◌}
 use Rattle.fluent_ast.specs.Tree.{is_yes}
-use Rattle.fluent_places.specs.Clean.{place_same, place_view, views, IsAmong}
+use Rattle.fluent_places.specs.Places.{place_same, place_view, views}
+use Rattle.fluent_places.specs.Needs.{IsAmong}
 use Rattle.fluent_places.proofs.Gathering.{found_among, place_test}
 use Rattle.fluent_places.proofs.Shared.{joined}
 use Rattle.fluent_places.proofs.settling.join.Goals as goal

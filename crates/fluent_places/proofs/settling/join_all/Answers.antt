@@ -1,5 +1,5 @@
 use Rattle.std.proofs.Common.{refl}
-use Rattle.fluent_places.specs.Clean.{views}
+use Rattle.fluent_places.specs.Places.{views}
 use Rattle.fluent_places.proofs.Shared.{covers_kept, joined_not, joined_on}
 use Rattle.fluent_places.proofs.settling.join_all.Goals as goal
 

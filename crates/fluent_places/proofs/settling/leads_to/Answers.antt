@@ -1,9 +1,9 @@
 use Rattle.std.proofs.Common.{◌≡◌, map, sym, ap, ◌∙◌}
-use Rattle.fluent_places.specs.Clean.{place_view, place_target}
+use Rattle.fluent_places.specs.Places.{place_view, place_target}
 use Rattle.fluent_places.specs.Inside.Reached.{needs_at, needs_there}
 use Rattle.fluent_places.specs.NeedsView.{need_view}
-use Rattle.fluent_places.proofs.Growing.{among_at}
-use Rattle.fluent_places.proofs.Explained.{some_there}
+use Rattle.fluent_places.specs.Facts.Growing.{among_at}
+use Rattle.fluent_places.specs.Facts.Targets.{some_there}
 use Rattle.fluent_places.proofs.Shared.{leads_by}
 use Rattle.fluent_places.proofs.settling.leads_to.Goals as goal
 

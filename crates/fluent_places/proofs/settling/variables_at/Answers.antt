@@ -2,7 +2,7 @@ use Rattle.std.proofs.Common.{rules, refl, subst}
 use Rattle.std.specs.List.{AllByRecursion}
 use Rattle.std.proofs.lemmas.List.{take_all}
 use Rattle.fluent_places.specs.Inside.Sharing.{IsKnown}
-use Rattle.fluent_places.specs.Clean.{place_view}
+use Rattle.fluent_places.specs.Places.{place_view}
 use Rattle.fluent_places.proofs.Shared.{all_asked, all_known, known_more, listed_none}
 use Rattle.fluent_places.proofs.settling.variables_at.Goals as goal
 

@@ -1,7 +1,7 @@
 use Rattle.std.proofs.Common.{take}
 use Rattle.std.specs.List.{AllByRecursion}
 use Rattle.fluent_places.specs.Inside.Sharing.{AreListed, IsKnown}
-use Rattle.fluent_places.specs.Clean.{place_view}
+use Rattle.fluent_places.specs.Places.{place_view}
 use Rattle.fluent_places.proofs.settling.variables_at.Given as goal
 
 abbrev pub invariant-loop-place : goal.invariant-loop-place

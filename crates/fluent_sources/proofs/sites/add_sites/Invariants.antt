@@ -1,5 +1,5 @@
 use Rattle.std.proofs.Common.{◌≡◌, ◌++◌, drop}
-use Rattle.fluent_places.specs.Clean.{views}
+use Rattle.fluent_places.specs.Places.{views}
 use Rattle.fluent_sources.specs.Sites.{sites_at}
 use Rattle.fluent_sources.specs.SiteView.{site_views}
 use Rattle.fluent_sources.proofs.sites.add_sites.Given as goal

@@ -1,5 +1,5 @@
 use Rattle.std.proofs.Common.{ap, ◌∙◌}
-use Rattle.fluent_places.specs.Clean.{views}
+use Rattle.fluent_places.specs.Places.{views}
 use Rattle.fluent_sources.specs.SiteView.{site_views}
 use Rattle.fluent_sources.proofs.EntrySites.{sites-step}
 use Rattle.fluent_sources.proofs.sites.sites_from.Goals as goal

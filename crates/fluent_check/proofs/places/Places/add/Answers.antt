@@ -1,6 +1,6 @@
 use Rattle.std.proofs.Common.{◌∷◌, [], ◌∙◌, ap, map, not, refl, sym}
 use Rattle.std.proofs.lemmas.List.{map-append}
-use Rattle.fluent_places.specs.Clean.{names_of}
+use Rattle.fluent_places.specs.Places.{names_of}
 use Rattle.fluent_check.specs.Bundles.{bundle_view}
 use Rattle.fluent_sources.specs.Standing.{standing_view, standings}
 use Rattle.fluent_check.proofs.PlacesOf.{among, more_keys, more_rest, same_keys, same_rest}

@@ -2,7 +2,7 @@ use Rattle.std.proofs.Common.{◌∙◌, ap, subst}
 use Rattle.std.specs.List.{slice_get}
 use Rattle.std.specs.Option.{option_and_then}
 use Rattle.std.specs.Slice.{IsItemAt}
-use Rattle.fluent_places.specs.Clean.{place_view}
+use Rattle.fluent_places.specs.Places.{place_view}
 use Rattle.fluent_sources.specs.Standing.{standings}
 use Rattle.fluent_check.proofs.PlacesOf.{same_position, seen_at}
 use Rattle.fluent_check.proofs.places.Places.get.Goals as goal

@@ -1,5 +1,0 @@
-use Rattle.fluent_check.proofs.Naming.{has_more}
-use Rattle.fluent_check.proofs.compared.add_name.Goals as goal
-
-pub returns : goal.returns
-returns c = has_more c.args.name c.args.names.now.keys c.insert.new.self.keys c.in_ok-insert.ensures.keys

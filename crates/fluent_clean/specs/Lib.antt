@@ -1,0 +1,5 @@
+pub mod Clean
+pub mod Findings
+pub mod Laws
+pub mod Rows
+pub mod Inside

@@ -1,0 +1,2 @@
+-- Facts of places, for callers. No contract cites them.
+pub mod PlaceTests

@@ -1,0 +1,4 @@
+pub mod Among
+pub mod Compared
+pub mod Facts
+pub mod Inside

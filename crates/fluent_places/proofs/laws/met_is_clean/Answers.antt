@@ -1,5 +1,0 @@
-use Rattle.fluent_places.proofs.Cleaned.{met_is_clean}
-use Rattle.fluent_places.proofs.laws.met_is_clean.Goals as goal
-
-pub returns : goal.returns
-returns g c = met_is_clean

@@ -1,5 +1,0 @@
-use Rattle.fluent_places.proofs.SetTerms.{substituted_same, run_same}
-use Rattle.fluent_places.proofs.laws.set_terms_miss_nothing.Goals as goal
-
-pub returns : goal.returns
-returns g c = record { substituted = substituted_same; budgeted = run_same }

@@ -1,5 +1,0 @@
-use Rattle.fluent_places.proofs.Grounded.{unclean}
-use Rattle.fluent_places.proofs.laws.stuck_are_unclean.Goals as goal
-
-pub returns : goal.returns
-returns g c named ps stuck p among h = unclean named ps stuck h among
