@@ -77,7 +77,7 @@ run_unproved() {
     exit
 }
 
-# What 'rt try' is told of the crate of tests $1. A program is run for a second, and not by the interpreter.
+# What 'rt try' is told of the crate of tests $1. A program would be run for a second, and not by the interpreter.
 words_of() {
     [ -f "tests/$1/src/main.rs" ] || { echo --test && return; }
     printf '%s\n' --steps 1 --seconds 1 --
@@ -99,21 +99,39 @@ compile_module() {
             -Wl,--whole-archive "$kit/c/asan.a" -Wl,--no-whole-archive "$kit"/c/lib{os,libc}_c.a -lm
 }
 
-# Compiles the crate of tests $1 of the repository $2/copy, as $2/program: 'rt try' makes its module, and ends where it would run it.
-compile_tests() {
-    local words tried
+# Has 'rt try' make the module of the crate of tests $1 of the repository $2/copy, as $2/module.bc, and ends it where it would run the
+# program. The status is 0 where 'rt try' made a program, whether its module was caught or not.
+make_module() {
+    local words tried catcher status
     mapfile -t words < <(words_of "$1")
     mkdir "$2/try" || return 1
     catch_program "$2" &
+    catcher=$!
     (cd "$2/copy/crates/$1" && TMPDIR=$2/try exec rt try "${words[@]}") > "$2/said" 2>&1 < /dev/null &
     tried=$!
-    while kill -0 "$tried" 2> /dev/null && [ ! -x "$2/program" ]; do sleep 0.1; done
-    kill "$tried" 2> /dev/null
-    wait "$tried"
-    rm -rf "$2/try"
-    wait
-    rm -f "$2/program"
-    [ -f "$2/module.bc" ] && compile_module "$2" >> "$2/said" 2>&1 || { cat "$2/said" && echo "$1 can't be compiled" && false; }
+    while kill -0 "$tried" 2> /dev/null && ! { [ -x "$2/program" ] && [ -f "$2/module.bc" ]; }; do sleep 0.1; done
+    kill "$tried" "$catcher" 2> /dev/null
+    wait "$tried" "$catcher"
+    [ -x "$2/program" ] || grep -Eq '^(test result: |run=(ended|no-answer) )' "$2/said"
+    status=$?
+    rm -rf "$2/try" "$2/program"
+    return "$status"
+}
+
+# Compiles the crate of tests $1 of the repository $2/copy, as $2/program. A module that wasn't caught is made once more.
+compile_tests() {
+    local turn
+    for turn in 1 2 3; do
+        make_module "$1" "$2" || break
+        if [ -f "$2/module.bc" ]; then
+            compile_module "$2" >> "$2/said" 2>&1 || break
+            return 0
+        fi
+        echo "$1: the module of try $turn wasn't caught"
+    done
+    cat "$2/said"
+    echo "$1 can't be compiled"
+    return 1
 }
 
 # Puts the crate of tests $1, and those that it stands on, into a repository of their own, $2. It runs in the top folder, as the rest.
