@@ -2,5 +2,4 @@ mod Lists
 mod Inverse
 mod Alike
 mod Decided
-mod Listed
 mod ReferenceRows

@@ -1,13 +1,10 @@
 -- What a pattern refers to, in the order of the tree.
-use Rattle.std.specs.Prelude.{◌≡◌, ◌<◌, List, [], ◌∷◌, ◌++◌, length, map, Vec}
-use Rattle.std.specs.declared.alloc.Global.{Global}
+use Rattle.std.specs.Prelude.{◌<◌, List, [], ◌∷◌, ◌++◌, length, map}
 use Rattle.fluent_ast.specs.Tree.{Text, Pattern, nothing, more, Element, text, placeable, Expression, inline, select, Variants, no_variants, variant, Inline, string, number, function, message, term, variable, nested, Call, no_call, call, Arguments, arguments, Inlines, no_inlines, argument, Nameds, no_nameds, named_argument, variants_of, inlines_of, nameds_of}
 use Rattle.fluent_ast.specs.View.{variant_view, inline_view, named_view}
 use Rattle.fluent_ast.specs.declared.ast.Variant as of_variant
 use Rattle.fluent_ast.specs.declared.ast.NamedArgument as of_named
 use Rattle.fluent_ast.specs.declared.ast.InlineExpression as of_inline
-use Rattle.fluent_ast.specs.declared.listing.Reference as code
-use Rattle.fluent_ast.specs.declared.listing.Reference.TheVariants as variants
 
 -- a message, a term or a function by its id
 pub data Reference : Type 0 where
@@ -62,14 +59,6 @@ abbrev mutual
 
 -- ---- of the code
 
-abbrev pub reference_view : code.Reference → Reference
-reference_view (variants.Message id) = a_message id.now
-reference_view (variants.Term id) = a_term id.now
-reference_view (variants.Function id) = a_function id.now
-
-abbrev pub references_view : Vec code.Reference Global → List Reference
-references_view list = map reference_view list.items
-
 abbrev pub variants_view : List of_variant.Variant → Variants
 variants_view vs = variants_of (map variant_view vs)
 
@@ -78,10 +67,6 @@ inlines_view xs = inlines_of (map inline_view xs)
 
 abbrev pub nameds_view : List of_named.NamedArgument → Nameds
 nameds_view ns = nameds_of (map named_view ns)
-
--- the new list is the old one with these after it
-abbrev pub AddsReferences : Vec code.Reference Global → Vec code.Reference Global → List Reference → Type 0
-AddsReferences old new these = references_view new ≡ references_view old ++ these
 
 -- there is a reference
 abbrev pub AreSome : List Reference → Type 0

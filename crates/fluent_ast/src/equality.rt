@@ -1,13 +1,12 @@
-//! `==` of the types of the tree and of references: equal contents, wherever they lie in memory.
+//! `==` of the types of the tree: equal contents, wherever they lie in memory.
 
 use crate::ast::{
     Attribute, CallArguments, Entry, Expression, Identifier, InlineExpression, Message,
     NamedArgument, Pattern, PatternElement, Resource, Term, Variant, VariantKey,
 };
-use crate::listing::Reference;
 use crate::same::{
     same_arguments, same_element, same_expression, same_inline, same_key, same_named, same_pattern,
-    same_reference, same_variant,
+    same_variant,
 };
 use crate::same_entries::{same_attribute, same_entries, same_entry, same_message, same_term};
 
@@ -334,27 +333,4 @@ impl<'s> Eq for VariantKey<'s> {
     ghost use Rattle.fluent_ast.specs.View.{key_view};
 
     ghost laws = { equivalent key_view key_same };
-}
-
-impl<'s> PartialEq for Reference<'s> {
-    ghost use Rattle.std.specs.Cmp.{partial_equiv_from_equiv};
-    ghost use Rattle.fluent_ast.specs.Tree.{is_yes};
-    ghost use Rattle.fluent_ast.specs.Same.{equivalent, reference_same};
-    ghost use Rattle.fluent_ast.specs.References.{reference_view};
-
-    ghost eq = { λ a b. is_yes (reference_same (reference_view a) (reference_view b)) };
-
-    ghost laws = { partial_equiv_from_equiv (equivalent reference_view reference_same) };
-
-    #[tactic(auto, using(crate::proofs::Decided::decided))]
-    fn eq(&self, other: &Self) -> bool {
-        same_reference(self, other)
-    }
-}
-
-impl<'s> Eq for Reference<'s> {
-    ghost use Rattle.fluent_ast.specs.Same.{equivalent, reference_same};
-    ghost use Rattle.fluent_ast.specs.References.{reference_view};
-
-    ghost laws = { equivalent reference_view reference_same };
 }

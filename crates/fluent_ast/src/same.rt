@@ -1,14 +1,12 @@
 //! Whether two parts of a tree have the same content, part by part.
 
 ghost use Rattle.std.specs.Prelude.{◌≡◌, ◌↔◌, IsTrue, map};
-ghost use Rattle.fluent_ast.specs.References.{reference_view};
 ghost use Rattle.fluent_ast.specs.View.{arguments_view, attribute_of, call_view, element_view, expression_view, inline_view, key_view, named_view, pattern_view, variant_view};
 
 use crate::ast::{
     CallArguments, Expression, Identifier, InlineExpression, NamedArgument, Pattern,
     PatternElement, Variant, VariantKey,
 };
-use crate::listing::Reference;
 
 #[cycle(same)]
 pub(crate) fn same_pattern<'s>(a: &Pattern<'s>, b: &Pattern<'s>) -> bool
@@ -236,15 +234,4 @@ fn same_target(
         × (attribute_of p.now ≡ attribute_of q.now)) }
 {
     a.name == b.name && same_attribute_name(p, q)
-}
-
-pub(crate) fn same_reference(a: &Reference, b: &Reference) -> bool
-    ensures { IsTrue result ↔ (reference_view a.now ≡ reference_view b.now) }
-{
-    match (a, b) {
-        (Reference::Message(x), Reference::Message(y)) => *x == *y,
-        (Reference::Term(x), Reference::Term(y)) => *x == *y,
-        (Reference::Function(x), Reference::Function(y)) => *x == *y,
-        _ => false,
-    }
 }

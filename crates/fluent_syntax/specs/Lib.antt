@@ -7,3 +7,4 @@ pub mod Chunks
 pub mod Parsed
 pub mod Facts
 pub mod Inside
+pub mod Listing

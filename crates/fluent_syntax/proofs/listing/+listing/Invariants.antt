@@ -1,8 +1,9 @@
 use Rattle.std.proofs.Common.{◌≡◌, ◌≤◌, ◌++◌, drop, length, map}
 use Rattle.fluent_ast.specs.Tree.{pattern_of}
 use Rattle.fluent_ast.specs.View.{element_view}
-use Rattle.fluent_ast.specs.References.{references, in_variants, in_positional, in_named, references_view, variants_view, inlines_view, nameds_view}
-use Rattle.fluent_ast.proofs.listing.+listing.Given as goal
+use Rattle.fluent_ast.specs.References.{references, in_variants, in_positional, in_named, variants_view, inlines_view, nameds_view}
+use Rattle.fluent_syntax.specs.Listing.{references_view}
+use Rattle.fluent_syntax.proofs.listing.+listing.Given as goal
 
 abbrev pub invariant-add_pattern-loop-element : goal.invariant-add_pattern-loop-element
 invariant-add_pattern-loop-element l =

@@ -1,10 +1,11 @@
 //! What a pattern refers to, listed.
 
-ghost use Rattle.std.specs.Prelude.{◌≡◌, [], IfOk, IsOk, OnErr, OnOk};
-ghost use Rattle.fluent_ast.specs.References.{AddsReferences, AreSome, references_view};
+ghost use Rattle.std.specs.Prelude.{◌≡◌, ◌↔◌, [], IfOk, IsOk, IsTrue, OnErr, OnOk};
+ghost use Rattle.fluent_ast.specs.References.{AreSome};
 ghost use Rattle.fluent_ast.specs.ReferencesOf.{of_arguments, of_expression, of_inline, of_inlines, of_nameds, of_variants, references_of};
+ghost use Rattle.fluent_syntax.specs.Listing.{AddsReferences, reference_view, references_view};
 
-use crate::ast::{
+use fluent_ast::ast::{
     CallArguments, Expression, InlineExpression, NamedArgument, Pattern, PatternElement, Variant,
 };
 use std::alloc::{AllocError, Global};
@@ -16,6 +17,40 @@ pub enum Reference<'s> {
     Message(&'s str),
     Term(&'s str),
     Function(&'s str),
+}
+
+impl<'s> PartialEq for Reference<'s> {
+    ghost use Rattle.std.specs.Cmp.{partial_equiv_from_equiv};
+    ghost use Rattle.fluent_ast.specs.Tree.{is_yes};
+    ghost use Rattle.fluent_ast.specs.Same.{equivalent, reference_same};
+    ghost use Rattle.fluent_syntax.specs.Listing.{reference_view};
+
+    ghost eq = { λ a b. is_yes (reference_same (reference_view a) (reference_view b)) };
+
+    ghost laws = { partial_equiv_from_equiv (equivalent reference_view reference_same) };
+
+    #[tactic(auto, using(crate::proofs::Decided::decided))]
+    fn eq(&self, other: &Self) -> bool {
+        same_reference(self, other)
+    }
+}
+
+impl<'s> Eq for Reference<'s> {
+    ghost use Rattle.fluent_ast.specs.Same.{equivalent, reference_same};
+    ghost use Rattle.fluent_syntax.specs.Listing.{reference_view};
+
+    ghost laws = { equivalent reference_view reference_same };
+}
+
+fn same_reference(a: &Reference, b: &Reference) -> bool
+    ensures { IsTrue result ↔ (reference_view a.now ≡ reference_view b.now) }
+{
+    match (a, b) {
+        (Reference::Message(x), Reference::Message(y)) => *x == *y,
+        (Reference::Term(x), Reference::Term(y)) => *x == *y,
+        (Reference::Function(x), Reference::Function(y)) => *x == *y,
+        _ => false,
+    }
 }
 
 /// Lists what a pattern refers to, in the order of the tree and as often as it stands there: a reference before what

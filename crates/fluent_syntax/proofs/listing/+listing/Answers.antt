@@ -1,9 +1,9 @@
 use Rattle.std.proofs.Common.{rules}
 use Rattle.std.proofs.lemmas.List.{append_assoc, append-nil}
 use Rattle.fluent_ast.specs.declared.ast.Expression.{the_lemmas}
-use Rattle.fluent_ast.proofs.Listed.{pushed, element_more, elements_end, positional_more, positional_end, named_more, named_end, variant_more, variants_end}
-use Rattle.fluent_ast.proofs.listing.+listing.Goals as goal
-use Rattle.fluent_ast.proofs.listing.+listing.Goals.{add_pattern-in-Placeable+in_ok-add_expression, add_pattern-in_default}
+use Rattle.fluent_syntax.proofs.Listed.{pushed, element_more, elements_end, positional_more, positional_end, named_more, named_end, variant_more, variants_end}
+use Rattle.fluent_syntax.proofs.listing.+listing.Goals as goal
+use Rattle.fluent_syntax.proofs.listing.+listing.Goals.{add_pattern-in-Placeable+in_ok-add_expression, add_pattern-in_default}
 
 pub add_arguments-returns-clause-added : goal.add_arguments-returns-clause-added
 add_arguments-returns-clause-added t c = search (rules, the_lemmas, append_assoc)
@@ -51,3 +51,24 @@ add_variants-loop-variant-preserved t c = variant_more _ _ _ _ _ _ _ c.loop-vari
 
 pub add_variants-returns-clause-added : goal.add_variants-returns-clause-added
 add_variants-returns-clause-added t c = variants_end _ _ _ _ c.loop-variant-test.false c.loop-variant.invariant.0
+
+pub add_inline-returns-in_ok-push-in-MessageReference-clause-alloc_failed : goal.add_inline-returns-in_ok-push-in-MessageReference-clause-alloc_failed
+add_inline-returns-in_ok-push-in-MessageReference-clause-alloc_failed t c = search
+
+pub add_inline-returns-in-None-clause-alloc_failed : goal.add_inline-returns-in-None-clause-alloc_failed
+add_inline-returns-in-None-clause-alloc_failed t c = search
+
+pub add_inline-returns-in-StringLiteral-clause-alloc_failed : goal.add_inline-returns-in-StringLiteral-clause-alloc_failed
+add_inline-returns-in-StringLiteral-clause-alloc_failed t c = search
+
+pub add_named-returns-clause-alloc_failed : goal.add_named-returns-clause-alloc_failed
+add_named-returns-clause-alloc_failed t c = search
+
+pub add_pattern-returns-clause-alloc_failed : goal.add_pattern-returns-clause-alloc_failed
+add_pattern-returns-clause-alloc_failed t c = search
+
+pub add_positional-returns-clause-alloc_failed : goal.add_positional-returns-clause-alloc_failed
+add_positional-returns-clause-alloc_failed t c = search
+
+pub add_variants-returns-clause-alloc_failed : goal.add_variants-returns-clause-alloc_failed
+add_variants-returns-clause-alloc_failed t c = search

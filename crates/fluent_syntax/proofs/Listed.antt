@@ -3,8 +3,9 @@ use Rattle.std.proofs.Common.{◌≡◌, ℕ, ◌+◌, ◌<◌, ◌≤◌, List,
 use Rattle.std.proofs.lemmas.List.{append_assoc, append-nil, length-append, map-append, at_drop_more, at_drop_all}
 use Rattle.fluent_ast.specs.Tree.{pattern_of}
 use Rattle.fluent_ast.specs.View.{element_view, inline_view, pattern_view}
-use Rattle.fluent_ast.specs.References.{Reference, in_element, in_inline, in_named, in_positional, in_variants, inlines_view, nameds_view, reference_view, references, variants_view}
-use Rattle.fluent_ast.specs.declared.listing.Reference as code
+use Rattle.fluent_ast.specs.References.{Reference, in_element, in_inline, in_named, in_positional, in_variants, inlines_view, nameds_view, references, variants_view}
+use Rattle.fluent_syntax.specs.Listing.{reference_view}
+use Rattle.fluent_syntax.specs.declared.listing.Reference as code
 use Rattle.fluent_ast.specs.declared.ast.Expression.{the_lemmas}
 use Rattle.fluent_ast.specs.declared.ast.InlineExpression.{InlineExpression}
 use Rattle.fluent_ast.specs.declared.ast.NamedArgument.{NamedArgument, out-NamedArgument}
