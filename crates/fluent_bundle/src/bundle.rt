@@ -198,7 +198,7 @@ impl<
         if entries.is_empty() {
             return Ok(Vec::new(self.alloc));
         }
-        self.entries.add_entries(self.alloc, entries)
+        fluent_adding::add_entries(self.alloc, &mut self.entries, entries)
     }
 
     /// Adds the messages and terms of a resource in order, each in place of what had its id, a function too. Junk
@@ -216,7 +216,7 @@ impl<
         ensures err { OnErr result (⟦<Self as Means>⟧.meaning self.new ≡ ⟦<Self as Means>⟧.meaning self.old) }
         ensures kept { KeepsSettings self.old self.new }
     {
-        self.entries.override_entries(self.alloc, resource.all())
+        fluent_adding::override_entries(self.alloc, &mut self.entries, resource.all())
     }
 
     /// Adds a function of the application under an id, which is copied.
@@ -243,7 +243,7 @@ impl<
         ensures kept { KeepsSettings self.old self.new }
     {
         let id = CowStr::Owned(String::from_str(self.alloc, id)?);
-        self.entries.add_function(self.alloc, id, function)
+        fluent_adding::add_function(self.alloc, &mut self.entries, id, function)
     }
 
     /// Puts a function of the application under an id, which is copied, in place of what had it: also a message or a term.
@@ -258,7 +258,7 @@ impl<
         ensures kept { KeepsSettings self.old self.new }
     {
         let id = CowStr::Owned(String::from_str(self.alloc, id)?);
-        self.entries.override_function(id, function)
+        fluent_adding::override_function(&mut self.entries, id, function)
     }
 
     /// Adds the function `NUMBER`, which gives a number the options in its named arguments.
@@ -273,7 +273,7 @@ impl<
         ensures kept { KeepsSettings self.old self.new }
     {
         let id = CowStr::Borrowed("NUMBER");
-        all_added(self.entries.add_number(self.alloc, id))
+        all_added(fluent_adding::add_number(self.alloc, &mut self.entries, id))
     }
 
     /// Whether the id names a message. Takes no memory.

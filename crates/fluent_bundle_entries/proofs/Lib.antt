@@ -1,6 +1,3 @@
 pub mod ByName
-pub mod Added
-pub mod OneId
-pub mod Waiting
 pub mod Linking
 pub mod Own

@@ -5,6 +5,9 @@ pub mod MessageView
 pub mod Named
 pub mod KeptLinks
 pub mod IdNumbers
+pub mod Changes
+pub mod KeptInIds
+pub mod KeptLaws
 pub mod Texts
 pub mod TextRows
 pub mod Inside

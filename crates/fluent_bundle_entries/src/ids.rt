@@ -39,7 +39,7 @@ impl<'r, 's, F> Ids<'r, 's, F> {
     ghost use Rattle.fluent_semantics.specs.Bundle.{Function};
     ghost use Rattle.fluent_bundle_entries.specs.EntryView.{ids};
     ghost use Rattle.fluent_bundle_entries.specs.IdNumbers.{IsNumberOf};
-    ghost use Rattle.fluent_bundle_entries.specs.Inside.KeptInIds.{IsLinkedIn};
+    ghost use Rattle.fluent_bundle_entries.specs.KeptInIds.{IsLinkedIn};
     ghost use Rattle.fluent_bundle_entries.specs.Inside.LookUps.{FindsEntry, FindsSlot, TellsFilled, TellsNamed};
     ghost use Rattle.fluent_bundle_entries.specs.Named.{IsNamed};
 
@@ -76,14 +76,14 @@ impl<'r, 's, F> Ids<'r, 's, F> {
     }
 
     /// Whether an id names something.
-    pub(crate) fn is_known(&self, id: &str) -> bool
+    pub fn is_known(&self, id: &str) -> bool
         ensures { TellsNamed self.now id.now result }
     {
         self.known.find(id).is_some()
     }
 
     /// Whether the id with this number names something.
-    pub(crate) fn is_filled(&self, number: u32) -> bool
+    pub fn is_filled(&self, number: u32) -> bool
         ensures { TellsFilled self.now number result }
     {
         self.known.at(number).is_some()
@@ -96,9 +96,9 @@ impl<'r, 's, F: Drop> Ids<'r, 's, F> {
     ghost use Rattle.fluent_ast.specs.Tree.{Text};
     ghost use Rattle.fluent_ast.specs.View.{pattern_view};
     ghost use Rattle.fluent_references.specs.Linked.{IsOf};
-    ghost use Rattle.fluent_bundle_entries.specs.Inside.Changes.{FillsSlot, KeepsEntries};
+    ghost use Rattle.fluent_bundle_entries.specs.Changes.{FillsSlot, KeepsEntries};
     ghost use Rattle.fluent_bundle_entries.specs.IdNumbers.{Grown, numbers, table};
-    ghost use Rattle.fluent_bundle_entries.specs.Inside.KeptInIds.{IsLinkedIn};
+    ghost use Rattle.fluent_bundle_entries.specs.KeptInIds.{IsLinkedIn};
     ghost use Rattle.fluent_bundle_entries.specs.Named.{IsNamed};
 
     /// Makes room for so many more ids, so that their numbers and slots are put where they stay. What ids name stays.
@@ -106,7 +106,7 @@ impl<'r, 's, F: Drop> Ids<'r, 's, F> {
     /// # Errors
     ///
     /// An allocation failed.
-    pub(crate) fn reserve(&mut self, more: usize) -> Result<(), AllocError>
+    pub fn reserve(&mut self, more: usize) -> Result<(), AllocError>
         ensures grown { Grown self.old self.new }
         ensures same { KeepsEntries self.old self.new }
     {
@@ -114,7 +114,7 @@ impl<'r, 's, F: Drop> Ids<'r, 's, F> {
     }
 
     /// The number of an id, a new one where it has none. What ids name stays.
-    pub(crate) fn number_of(&mut self, id: CowStr<'s>) -> Result<u32, AllocError>
+    pub fn number_of(&mut self, id: CowStr<'s>) -> Result<u32, AllocError>
         ensures number { IfOk result (λ n. numbers self.new (cow_str_bytes id.entry) ≡ Some n) }
         ensures grown { Grown self.old self.new }
         ensures same { KeepsEntries self.old self.new }
@@ -124,11 +124,7 @@ impl<'r, 's, F: Drop> Ids<'r, 's, F> {
 
     /// What is kept of a pattern that is going to be stored: its class, and the numbers of what it refers to. What ids
     /// name stays.
-    pub(crate) fn link(
-        &mut self,
-        alloc: Global,
-        pattern: &'r Pattern<'s>,
-    ) -> Result<Linked, AllocError>
+    pub fn link(&mut self, alloc: Global, pattern: &'r Pattern<'s>) -> Result<Linked, AllocError>
         ensures linked { IfOk result
             (IsOf (numbers self.new) (table self.new) (pattern_view pattern.now)) }
         ensures grown { Grown self.old self.new }
@@ -138,7 +134,7 @@ impl<'r, 's, F: Drop> Ids<'r, 's, F> {
     }
 
     /// Puts an entry into the slot with this number, in place of what it holds.
-    pub(crate) fn put(&mut self, number: u32, slot: Slot<'r, 's, F>)
+    pub fn put(&mut self, number: u32, slot: Slot<'r, 's, F>)
         requires own { (id : Text) × (numbers self.old id ≡ Some number) × IsNamed id slot.entry }
         requires linked { IsLinkedIn self.old slot }
         ensures numbers { (id : Text) → numbers self.new id ≡ numbers self.old id }

@@ -1,13 +1,11 @@
 //! What the ids of a bundle name, messages, terms and functions in one map, and what is reported to the caller.
 #![tactic(auto)]
 
-mod adding;
 mod entry;
 pub mod errors;
 mod ids;
 pub mod laws;
 mod message;
-mod ready;
 mod slot;
 mod texts;
 

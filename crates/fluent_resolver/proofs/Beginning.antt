@@ -8,7 +8,7 @@ use Rattle.fluent_semantics.specs.Meaning.{Budget}
 use Rattle.fluent_semantics.specs.Walk.{Environment, elements, has_one, inner}
 use Rattle.fluent_resolver_state.specs.Facts.Happening.{with_none}
 use Rattle.fluent_resolver_state.specs.Happened.{Happened}
-use Rattle.fluent_resolver_state.specs.PathContents.{front}
+use Rattle.fluent_path.specs.Contents.{front}
 use Rattle.fluent_resolver_state.specs.Status.{Status}
 use Rattle.fluent_resolver_state.specs.Steps.{StartsPattern}
 use Rattle.fluent_values.specs.Facts.Took.{appends_none}

@@ -12,9 +12,9 @@ use Rattle.fluent_semantics.specs.Walk.{Environment, elements, has_one, inner, i
 use Rattle.fluent_semantics.specs.Arguments.{Map}
 use Rattle.fluent_semantics.specs.Value.{Value}
 use Rattle.fluent_resolver_state.specs.Facts.Happening.{happened_as, with_none}
-use Rattle.fluent_resolver_state.specs.Facts.Trails.{front_snoc}
+use Rattle.fluent_path.specs.Facts.{front_snoc}
 use Rattle.fluent_resolver_state.specs.Happened.{Happened, lost_of}
-use Rattle.fluent_resolver_state.specs.PathContents.{front}
+use Rattle.fluent_path.specs.Contents.{front}
 use Rattle.fluent_resolver_state.specs.Status.{Status}
 use Rattle.fluent_resolver_state.specs.Steps.{Enters}
 use Rattle.fluent_values.specs.Facts.Took.{appends_none, at_err, at_ok}

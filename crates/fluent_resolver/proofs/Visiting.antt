@@ -9,7 +9,8 @@ use Rattle.fluent_semantics.specs.Events.{entered}
 use Rattle.fluent_semantics.specs.Meaning.{limit_reached}
 use Rattle.fluent_resolver_state.specs.Facts.Happening.{with_none}
 use Rattle.fluent_resolver_state.specs.Happened.{Happened}
-use Rattle.fluent_resolver_state.specs.Status.{Status, counted}
+use Rattle.fluent_path.specs.Contents.{counted}
+use Rattle.fluent_resolver_state.specs.Status.{Status}
 use Rattle.fluent_resolver_state.specs.Steps.{Visits}
 use Rattle.fluent_values.specs.Facts.Took.{appends_none}
 use Rattle.fluent_values.specs.Sinks.{Sink}

@@ -21,7 +21,7 @@ use Rattle.fluent_semantics.specs.Walk.{has_one}
 use Rattle.fluent_resolver_state.specs.FoundView.{found_view, IsLedBy}
 use Rattle.fluent_resolver_state.specs.Gathered.{values_of}
 use Rattle.fluent_resolver_state.specs.Happened.{Happened}
-use Rattle.fluent_resolver_state.specs.PathContents.{front}
+use Rattle.fluent_path.specs.Contents.{front}
 use Rattle.fluent_resolver_state.specs.Status.{Status, environment_view, state}
 use Rattle.fluent_resolver_state.specs.declared.state.State.{State}
 use Rattle.fluent_values.specs.Sinks.{Sink, CountsTell, outside}

@@ -2,7 +2,7 @@
 #![tactic(auto, unfolding(crate::specs::ScopeView::scope_parts, fluent_resolver_state::specs::Status::state_parts))]
 
 ghost use Rattle.std.specs.Prelude.{◌≡◌, true};
-ghost use Rattle.fluent_resolver_state.specs.PathContents.{is_idle};
+ghost use Rattle.fluent_path.specs.Contents.{is_idle};
 ghost use Rattle.fluent_resolver_state.specs.Status.{is_outside};
 
 use crate::means::Means;

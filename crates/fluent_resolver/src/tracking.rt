@@ -5,7 +5,7 @@ ghost use Rattle.std.specs.Prelude.{◌≡◌, ◌≢◌, Err, IfOk, IsOk, IsTru
 ghost use Rattle.fluent_ast.specs.View.{arguments_view, expression_view, inline_view, pattern_view};
 ghost use Rattle.fluent_bundle_entries.specs.Texts.{IsTextAlone};
 ghost use Rattle.fluent_semantics.specs.Errors.{reference_of};
-ghost use Rattle.fluent_resolver_state.specs.PathContents.{is_idle};
+ghost use Rattle.fluent_path.specs.Contents.{is_idle};
 ghost use Rattle.fluent_resolver_state.specs.StateCalls.{events_of_lost};
 ghost use Rattle.fluent_resolver_state.specs.Status.{state};
 ghost use Rattle.fluent_resolver.specs.Frames.{Tries, Yields};

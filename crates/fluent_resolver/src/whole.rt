@@ -7,7 +7,7 @@ ghost use Rattle.fluent_ast.specs.View.{pattern_view};
 ghost use Rattle.fluent_bundle_entries.specs.IdNumbers.{IsPlaced};
 ghost use Rattle.fluent_bundle_entries.specs.Texts.{IsTextAlone};
 ghost use Rattle.fluent_values.specs.Sinks.{GoesThrough};
-ghost use Rattle.fluent_resolver_state.specs.PathContents.{is_idle};
+ghost use Rattle.fluent_path.specs.Contents.{is_idle};
 ghost use Rattle.fluent_resolver_state.specs.Status.{state};
 ghost use Rattle.fluent_resolver.specs.Frames.{Tries};
 ghost use Rattle.fluent_resolver.specs.Scoped.{pattern_events};

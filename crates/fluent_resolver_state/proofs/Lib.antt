@@ -1,5 +1,4 @@
 pub mod Choice
-pub mod Classed
 pub mod Fallbacks
 pub mod InTurn
 pub mod Kept

@@ -8,7 +8,8 @@ use Rattle.fluent_semantics.specs.Errors.{Error, resolver_error, lost, Reference
 use Rattle.fluent_semantics.specs.Events.{Event, wrote, told, opened, reached_limit, entered, writes, tells, text_in, errors_in, spent}
 use Rattle.fluent_semantics.specs.Value.{Value, error_value}
 use Rattle.fluent_semantics.specs.Walk.{Environment, application, local}
-use Rattle.fluent_resolver_state.specs.Status.{Status, Tally, counted, with_errors}
+use Rattle.fluent_path.specs.Contents.{counted}
+use Rattle.fluent_resolver_state.specs.Status.{Status, Tally, with_errors}
 use Rattle.fluent_values.specs.declared.output.Halt.{Halt}
 use Rattle.fluent_values.specs.Sinks.{Sink, CountsTell}
 

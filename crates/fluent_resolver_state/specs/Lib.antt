@@ -2,7 +2,6 @@ pub mod Gathered
 pub mod Leaves
 pub mod Locals
 pub mod FoundView
-pub mod PathContents
 pub mod Status
 pub mod Happened
 pub mod Steps

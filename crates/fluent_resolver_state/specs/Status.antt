@@ -1,5 +1,5 @@
 -- What a call carries while it resolves, by content.
-use Rattle.std.specs.Prelude.{ℕ, ◌-◌, ◌^◌, min, List, [], ◌++◌, map, Bool, true, false, Option, None, Some}
+use Rattle.std.specs.Prelude.{ℕ, List, [], ◌++◌, map, Bool, true, false, Option, None, Some}
 use Rattle.std.specs.Option.{option_map}
 use Rattle.std.specs.Borrow.{Bor, MutBor}
 use Rattle.std.specs.declared.vec.Vec.{Vec}
@@ -15,7 +15,7 @@ use Rattle.fluent_semantics.specs.Meaning.{Budget, left, limit_reached}
 use Rattle.fluent_bundle_entries.specs.EntryView.{ids}
 use Rattle.fluent_bundle_entries.specs.IdNumbers.{numbers, table}
 use Rattle.fluent_resolver_state.specs.Locals.{locals_view}
-use Rattle.fluent_resolver_state.specs.PathContents.{on_path}
+use Rattle.fluent_path.specs.Contents.{counted, on_path}
 use Rattle.fluent_bundle_entries.specs.ErrorView.{error_view}
 use Rattle.fluent_values.specs.View.{named}
 use Rattle.fluent_values.specs.declared.args.FluentArgs.{FluentArgs}
@@ -63,10 +63,6 @@ pub record Tally : Type 0 where
   pub opened : ℕ
   pub longest : ℕ
   pub entered : ℕ
-
--- a count stands still at the largest number of 64 bits
-abbrev pub counted : ℕ → ℕ
-counted n = min n (2 ^ 64 - 1)
 
 abbrev pub tally : Counts → Tally
 tally c = record { opened = counted c.opened; longest = counted c.longest; entered = counted c.entered }

@@ -10,8 +10,8 @@ use Rattle.fluent_semantics.specs.Meaning.{Budget, left, limit_reached}
 use Rattle.fluent_semantics.specs.Value.{Value}
 use Rattle.fluent_semantics.specs.Walk.{application, inner}
 use Rattle.fluent_resolver_state.specs.Happened.{Stays}
-use Rattle.fluent_resolver_state.specs.PathContents.{front}
-use Rattle.fluent_resolver_state.specs.Status.{Status, counted, with_errors}
+use Rattle.fluent_path.specs.Contents.{counted, front}
+use Rattle.fluent_resolver_state.specs.Status.{Status, with_errors}
 
 -- whether one more placeable may be opened
 abbrev pub can_open : Budget → Bool

@@ -12,7 +12,6 @@ pub mod leaves;
 pub mod locals;
 pub mod lost;
 pub mod output;
-pub mod path;
 pub mod placeable;
 pub mod shown;
 pub mod state;

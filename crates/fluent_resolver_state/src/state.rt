@@ -2,13 +2,13 @@
 #![tactic(auto, unfolding(crate::specs::Status::state_parts))]
 
 ghost use Rattle.fluent_bundle_entries.specs.IdNumbers.{table};
-ghost use Rattle.fluent_resolver_state.specs.PathContents.{AreClassed, above_on};
+ghost use Rattle.fluent_path.specs.Contents.{AreClassed, above_on};
 
 use crate::budget::{Budget, Counts};
 use crate::environment::Environment;
-use crate::path::Path;
 use fluent_ast::ast::Pattern;
 use fluent_bundle_entries::{FluentError, Ids, ResolverError};
+use fluent_path::Path;
 use fluent_values::{Context, FluentArgs, FluentFunction, FluentType};
 use std::alloc::AllocError;
 
@@ -67,7 +67,7 @@ impl<'errors, 'p, 'r, 's, 'args, C: FluentType, F: FluentFunction<C>, B: Context
     ghost use Rattle.fluent_resolver_state.specs.Steps.{can_open};
     ghost use Rattle.fluent_ast.specs.View.{pattern_view};
     ghost use Rattle.fluent_references.specs.Linked.{IsClassOf};
-    ghost use Rattle.fluent_resolver_state.specs.PathContents.{is_idle};
+    ghost use Rattle.fluent_path.specs.Contents.{is_idle};
     ghost use Rattle.fluent_resolver_state.specs.Status.{is_outside};
     ghost use Rattle.fluent_resolver_state.specs.StateCalls.{BeginsCall, Enters, Leaves, Reports, Rests, Starts, TakesOne, Visits, status};
 

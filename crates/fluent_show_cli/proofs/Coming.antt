@@ -21,7 +21,8 @@ use Rattle.fluent_semantics.specs.Value.{Plurals}
 use Rattle.fluent_plural_rules.specs.declared.rule_texts.fault.RuleFault.{RuleFault}
 use Rattle.fluent_plural_rules.specs.declared.rule_texts.fault.RuleFault.TheVariants as rule_fault
 use Rattle.fluent_bundle.specs.BundleView.{value_at}
-use Rattle.fluent_show_cli.specs.Program.{Asked, asked_by, plurals_asked, HasBadRule, Ending, exit_status, shown, bad_usage, bad_rule, not_utf8, out_of_memory, reading_failed, Run, First, only, bundle_of, run_value, run_sources, run_source, run_input, run_by, run_asked, run_of, first_of_source, first_by, first_asked}
+use Rattle.fluent_show_cli.specs.Program.{Ending, exit_status, shown, bad_usage, bad_rule, not_utf8, out_of_memory, reading_failed, Run, First, only, bundle_of, run_value, run_sources, run_source, run_input, run_by, run_asked, run_of, first_of_source, first_by, first_asked}
+use Rattle.fluent_show_words.specs.Words.{Asked, asked_by, plurals_asked, HasBadRule}
 use Rattle.fluent_show_cli.specs.Runs.{ending_of, ending_of_rules, Inlet, ReadFor, Outlet, outlet, TakesAll, AreLeft, EndsRun, as_defined, by_reading, by_writing, by_memory, by_memory_read, by_memory_shown}
 use Rattle.fluent_show_cli.specs.Inside.OutputProgress.{Added, Stops, before, after, Took, TookPart}
 use Rattle.fluent_show_cli.specs.declared.input.InputState.{InputState}

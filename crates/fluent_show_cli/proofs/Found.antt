@@ -10,7 +10,8 @@ use Rattle.fluent_semantics.specs.Bundle.{Bundle}
 use Rattle.fluent_semantics.specs.Result.{written_pattern}
 use Rattle.fluent_semantics.specs.Value.{Value}
 use Rattle.fluent_bundle.specs.Formatted.{EventsAreRun, WritesAsked}
-use Rattle.fluent_show_cli.specs.Program.{shown, no_message, Asked, arguments_of, only, run_value}
+use Rattle.fluent_show_cli.specs.Program.{shown, no_message, arguments_of, only, run_value}
+use Rattle.fluent_show_words.specs.Words.{Asked}
 use Rattle.fluent_show_cli.specs.Inside.Comes.{Errors}
 use Rattle.fluent_show_cli.specs.Inside.OutputProgress.{Added, Took, TookPart}
 use Rattle.fluent_show_cli.proofs.Adding.{always, recast}

@@ -1,6 +1,4 @@
 -- How private functions stand to the definitions beside this file. No public contract cites these.
-pub mod WordsView
-pub mod PluralsView
 pub mod BundleView
 pub mod OneRead
 pub mod WholeRead

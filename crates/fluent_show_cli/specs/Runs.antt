@@ -15,7 +15,8 @@ use Rattle.fluent_show_cli.specs.declared.input.InputState.{InputState}
 use Rattle.fluent_show_cli.specs.declared.input.InputState.TheVariants.{Open, AtEnd, Failed}
 use Rattle.fluent_show_cli.specs.declared.input.Reads.{Reads}
 use Rattle.fluent_show_cli.specs.declared.report.Ending.TheVariants.{Shown, NoMessage, Usage, PluralRule, NotUtf8, Memory, Reading, Writing}
-use Rattle.fluent_show_cli.specs.Program.{Run, First, Answer, first_of, program, run_of, Ending, bad_usage, bad_rule, out_of_memory, reading_failed, shown, no_message, not_utf8, writing_failed, said, exit_status, Asked, asked_by}
+use Rattle.fluent_show_cli.specs.Program.{Run, First, Answer, first_of, program, run_of, Ending, bad_usage, bad_rule, out_of_memory, reading_failed, shown, no_message, not_utf8, writing_failed, said, exit_status}
+use Rattle.fluent_show_words.specs.Words.{Asked, asked_by}
 use Rattle.fluent_plural_rules.specs.declared.rule_texts.fault.RuleFault as rule_faults
 use Rattle.fluent_plural_rules.specs.declared.rule_texts.fault.RuleFault.TheVariants as rule_fault
 use Rattle.fluent_text.specs.declared.counting.WriteFault as faults

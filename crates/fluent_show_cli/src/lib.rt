@@ -2,10 +2,7 @@
 #![tactic(auto)]
 
 pub mod input;
-mod options;
-mod plurals;
 pub mod report;
-mod request;
 pub mod run;
 mod show;
 mod task;

@@ -2,18 +2,19 @@
 
 ghost use Rattle.std.specs.Prelude.{◌≡◌, ◌≢◌, ◌≤◌, [], None};
 ghost use Rattle.fluent_resolver_state.specs.Status.{reported};
-ghost use Rattle.fluent_show_cli.specs.Program.{HasBadRule, bad_usage, reading_failed};
+ghost use Rattle.fluent_show_cli.specs.Program.{bad_usage, reading_failed};
+ghost use Rattle.fluent_show_words.specs.Words.{HasBadRule};
 ghost use Rattle.fluent_show_cli.specs.Runs.{ending_view, ReadsAreBounded, IsUntouched, CameTo, Stopped, Works, asked_of};
 ghost use Rattle.fluent_show_cli.specs.Inside.Ends.{EndsAsked, EndsOnRule, EndsOver, EndsReading, ReadAs};
 ghost use Rattle.fluent_show_cli.specs.Inside.RunWith.{RanWith};
 
 use crate::input::{ReadFault, Reads, read_all};
-use crate::plurals::{Plurals, read_rules};
 use crate::report::{Ending, report};
-use crate::request::Request;
 use crate::show::show;
 use crate::task::Task;
 use fluent_bundle::{Counting, FluentError};
+use fluent_show_words::plurals::{Plurals, read_rules};
+use fluent_show_words::request::Request;
 use std::alloc::Global;
 use std::io::{Read, Write};
 use std::str;

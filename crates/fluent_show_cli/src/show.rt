@@ -5,22 +5,22 @@ ghost use Rattle.fluent_syntax.specs.Chunks as grammar;
 ghost use Rattle.fluent_text.specs.Writer.{CountsFault};
 ghost use Rattle.fluent_resource.specs.ResourceView.{entries_of};
 ghost use Rattle.fluent_show_cli.specs.Program.{line, junk_errors, start};
-ghost use Rattle.fluent_show_cli.specs.Inside.PluralsView.{plurals_view};
+ghost use Rattle.fluent_show_words.specs.PluralsView.{plurals_view};
 ghost use Rattle.fluent_show_cli.specs.Inside.BundleView.{args_view, bundle_view};
 ghost use Rattle.fluent_show_cli.specs.Inside.Comes as of;
 ghost use Rattle.fluent_show_cli.specs.Inside.Comes.{words_arguments, AddsAs, AddsErrors, EndsAs, GivesAs, Puts, PutsPart, StopsAs};
 ghost use Rattle.fluent_show_cli.specs.Inside.OutputProgress.{Took};
 ghost use Rattle.fluent_show_cli.specs.Inside.Said.{At};
 
-use crate::plurals::Plurals;
 use crate::report::Ending;
-use crate::request::{Request, name_and_value};
 use crate::task::Task;
 use fluent_bundle::{
     AddFault, Counting, FluentArgs, FluentBundle, FluentError, FluentResource, FluentValue,
     NoCustom, NoFormatter, NoFunction, NoTransform, ParserError, WriteFault, laws,
 };
 use fluent_fallback::{BundleRef, Chain};
+use fluent_show_words::plurals::Plurals;
+use fluent_show_words::request::{Request, name_and_value};
 use fluent_syntax::put;
 use std::alloc::{AllocError, Global};
 use std::borrow::CowStr;

@@ -1,7 +1,7 @@
 //! What a run is to show, once its words are read.
 
-use crate::plurals::Plurals;
-use crate::request::Request;
+use fluent_show_words::plurals::Plurals;
+use fluent_show_words::request::Request;
 
 /// A request, and who chooses plural categories for it.
 #[derive(Clone, Copy)]

@@ -56,7 +56,7 @@ use Rattle.fluent_resolver.proofs.Telling.{puts_nothing, tells_first, tells_none
 use Rattle.fluent_ast.specs.Fallback.{fallback, in_braces}
 use Rattle.fluent_resolver_state.specs.FoundView.{content_at, found_view}
 use Rattle.fluent_resolver_state.specs.Locals.{locals_view}
-use Rattle.fluent_resolver_state.specs.PathContents.{front}
+use Rattle.fluent_path.specs.Contents.{front}
 use Rattle.fluent_values.specs.Facts.Took.{at_ok}
 use Rattle.fluent_resolver.proofs.Entering.{enters_term, follow_found, follow_unknown, follow_without, go_cyclic, goes_into, goes_visited, looks_in, not_entered}
 use Rattle.fluent_resolver.proofs.Terms.{term_alone, term_called, term_literals}

@@ -12,8 +12,8 @@ use Rattle.fluent_values.specs.declared.formatter.NoFormatter.{NoFormatter}
 use Rattle.fluent_values.specs.declared.function.NoFunction.{NoFunction}
 use Rattle.fluent_values.specs.declared.transform.NoTransform.{NoTransform}
 use Rattle.fluent_values.specs.declared.types.custom.NoCustom.{NoCustom}
-use Rattle.fluent_show_cli.specs.Inside.PluralsView.{plurals_view}
-use Rattle.fluent_show_cli.specs.declared.plurals.Plurals.{Plurals}
+use Rattle.fluent_show_words.specs.PluralsView.{plurals_view}
+use Rattle.fluent_show_words.specs.declared.plurals.Plurals.{Plurals}
 
 -- no values and functions of the application, no formatter, no transform
 abbrev pub bundle_view : FluentBundle Plurals NoCustom NoFunction NoFormatter NoTransform

@@ -26,15 +26,16 @@ use Rattle.fluent_values.specs.declared.function.NoFunction.{NoFunction}
 use Rattle.fluent_values.specs.declared.transform.NoTransform.{NoTransform}
 use Rattle.fluent_values.specs.declared.types.custom.NoCustom.{NoCustom}
 use Rattle.fluent_fallback.specs.Chain.{chain_value}
-use Rattle.fluent_show_cli.specs.Program.{line, Run, First, adding_errors, all_first, arguments_of, bundle_of, error_at, first_alone, first_of_source, in_pieces, run_alone, run_both, run_chain, run_fallback, run_source, run_value, name_and_value}
+use Rattle.fluent_show_cli.specs.Program.{line, Run, First, adding_errors, all_first, arguments_of, bundle_of, error_at, first_alone, first_of_source, in_pieces, run_alone, run_both, run_chain, run_fallback, run_source, run_value}
+use Rattle.fluent_show_words.specs.Words.{name_and_value}
 use Rattle.fluent_show_cli.specs.Runs.{ending_view}
 use Rattle.fluent_show_cli.specs.Inside.BundleView.{bundle_view}
 use Rattle.fluent_show_cli.specs.Inside.OutputProgress.{Added, Stops, Took, TookPart}
-use Rattle.fluent_show_cli.specs.Inside.PluralsView.{plurals_view}
-use Rattle.fluent_show_cli.specs.Inside.WordsView.{asked_view}
-use Rattle.fluent_show_cli.specs.declared.plurals.Plurals.{Plurals}
+use Rattle.fluent_show_words.specs.PluralsView.{plurals_view}
+use Rattle.fluent_show_words.specs.WordsView.{asked_view}
+use Rattle.fluent_show_words.specs.declared.plurals.Plurals.{Plurals}
 use Rattle.fluent_show_cli.specs.declared.report.Ending.{Ending}
-use Rattle.fluent_show_cli.specs.declared.request.Request.{Request}
+use Rattle.fluent_show_words.specs.declared.request.Request.{Request}
 use Rattle.fluent_show_cli.specs.declared.task.Task.{Task}
 
 -- a list of errors, and a bundle, of the code

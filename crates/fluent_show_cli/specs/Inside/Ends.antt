@@ -8,8 +8,8 @@ use Rattle.fluent_resolver_state.specs.Status.{reported}
 use Rattle.fluent_bundle_entries.specs.declared.errors.FluentError.{FluentError}
 use Rattle.fluent_show_cli.specs.Program.{bad_rule, out_of_memory, first_of, first_of_source, run_input, run_of}
 use Rattle.fluent_show_cli.specs.Runs.{ending_view, ReadFor, inlet, reader_in, state_in, AreLeft, EndsRun, outlet}
-use Rattle.fluent_show_cli.specs.Inside.PluralsView.{plurals_view}
-use Rattle.fluent_show_cli.specs.Inside.WordsView.{asked_view}
+use Rattle.fluent_show_words.specs.PluralsView.{plurals_view}
+use Rattle.fluent_show_words.specs.WordsView.{asked_view}
 use Rattle.fluent_show_cli.specs.declared.input.InputState.{InputState}
 use Rattle.fluent_show_cli.specs.declared.input.InputState.TheVariants.{AtEnd}
 use Rattle.fluent_show_cli.specs.declared.input.Reads.{Reads}

@@ -1,8 +1,9 @@
 use Rattle.std.proofs.Common.{ap, refl, sym, Some, ◌≡◌, ◌∙◌}
 use Rattle.fluent_show_cli.specs.Runs.{reader_in}
-use Rattle.fluent_show_cli.specs.Program.{plurals_asked, run_asked, first_asked}
-use Rattle.fluent_show_cli.specs.Inside.PluralsView.{plurals_view}
-use Rattle.fluent_show_cli.specs.Inside.WordsView.{asked_view}
+use Rattle.fluent_show_cli.specs.Program.{run_asked, first_asked}
+use Rattle.fluent_show_words.specs.Words.{plurals_asked}
+use Rattle.fluent_show_words.specs.PluralsView.{plurals_view}
+use Rattle.fluent_show_words.specs.WordsView.{asked_view}
 use Rattle.fluent_show_cli.proofs.Coming.{ends_only, ends_of, ends_unruled, by_rules, first_by_rules, never_bad, read_for_rules, rule_or_memory, some_left}
 use Rattle.fluent_show_cli.proofs.run.attempt.Goals as goal
 

@@ -1,7 +1,7 @@
 use Rattle.std.proofs.Common.{rules, ap}
 use Rattle.fluent_show_cli.specs.Program.{first_of_source}
-use Rattle.fluent_show_cli.specs.Inside.WordsView.{asked_view}
-use Rattle.fluent_show_cli.specs.Inside.PluralsView.{plurals_view}
+use Rattle.fluent_show_words.specs.WordsView.{asked_view}
+use Rattle.fluent_show_words.specs.PluralsView.{plurals_view}
 use Rattle.fluent_show_cli.proofs.Coming.{ends_whole, ends_fault, ends_only, ends_of, of_text, of_no_text, is_of_text}
 use Rattle.fluent_show_cli.proofs.run.show_bytes.Goals as goal
 

@@ -1,6 +1,7 @@
 use Rattle.std.proofs.Common.{◌≡◌, map, drop, string_bytes}
 use Rattle.fluent_semantics.specs.Arguments.{set_all}
-use Rattle.fluent_show_cli.specs.Program.{name_and_value, argument, arguments_of}
+use Rattle.fluent_show_cli.specs.Program.{argument, arguments_of}
+use Rattle.fluent_show_words.specs.Words.{name_and_value}
 use Rattle.fluent_show_cli.specs.Inside.BundleView.{args_view}
 use Rattle.fluent_show_cli.proofs.show.arguments.Given as goal
 

@@ -6,9 +6,10 @@ use Rattle.fluent_semantics.specs.Bundle.{Bundle}
 use Rattle.fluent_semantics.specs.Value.{Plurals}
 use Rattle.fluent_resource.specs.ResourceView.{entries_of}
 use Rattle.fluent_fallback.specs.Chain.{chain_value}
-use Rattle.fluent_show_cli.specs.Program.{line, Asked, Run, after_errors, arguments_of, both_adding_errors, bundle_of, run_both, run_chain}
-use Rattle.fluent_show_cli.specs.Inside.WordsView.{asked_view}
-use Rattle.fluent_show_cli.specs.Inside.PluralsView.{plurals_view}
+use Rattle.fluent_show_cli.specs.Program.{line, Run, after_errors, arguments_of, both_adding_errors, bundle_of, run_both, run_chain}
+use Rattle.fluent_show_words.specs.Words.{Asked}
+use Rattle.fluent_show_words.specs.WordsView.{asked_view}
+use Rattle.fluent_show_words.specs.PluralsView.{plurals_view}
 use Rattle.fluent_show_cli.specs.Inside.BundleView.{bundle_view}
 use Rattle.fluent_show_cli.specs.Inside.OutputProgress.{Added}
 use Rattle.fluent_show_cli.proofs.Adding.{added_short, added_then}

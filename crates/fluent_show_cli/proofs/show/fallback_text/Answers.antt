@@ -5,9 +5,10 @@ use Rattle.fluent_ast.specs.Tree.{Text, Entry}
 use Rattle.fluent_syntax.specs.Chunks.{entries}
 use Rattle.fluent_semantics.specs.Value.{Plurals}
 use Rattle.fluent_resource.specs.ResourceView.{entries_of}
-use Rattle.fluent_show_cli.specs.Program.{line, Asked, Run, after_errors, both_junk_errors, run_both, run_fallback}
-use Rattle.fluent_show_cli.specs.Inside.WordsView.{asked_view}
-use Rattle.fluent_show_cli.specs.Inside.PluralsView.{plurals_view}
+use Rattle.fluent_show_cli.specs.Program.{line, Run, after_errors, both_junk_errors, run_both, run_fallback}
+use Rattle.fluent_show_words.specs.Words.{Asked}
+use Rattle.fluent_show_words.specs.WordsView.{asked_view}
+use Rattle.fluent_show_words.specs.PluralsView.{plurals_view}
 use Rattle.fluent_show_cli.specs.Inside.OutputProgress.{Added}
 use Rattle.fluent_show_cli.proofs.Adding.{added_short, added_then}
 use Rattle.fluent_show_cli.proofs.show.fallback_text.Goals as goal

@@ -6,9 +6,10 @@ use Rattle.fluent_text.specs.declared.counting.WriteFault.{WriteFault}
 use Rattle.fluent_text.specs.declared.counting.WriteFault.TheVariants.{Memory}
 use Rattle.fluent_semantics.specs.Value.{Plurals}
 use Rattle.fluent_resolver_state.specs.Status.{reported}
-use Rattle.fluent_show_cli.specs.Program.{line, Asked, First, Run, all_first, first_of_source, first_of_sources, run_fallback, run_source, run_sources}
-use Rattle.fluent_show_cli.specs.Inside.WordsView.{asked_view, text_view}
-use Rattle.fluent_show_cli.specs.Inside.PluralsView.{plurals_view}
+use Rattle.fluent_show_cli.specs.Program.{line, First, Run, all_first, first_of_source, first_of_sources, run_fallback, run_source, run_sources}
+use Rattle.fluent_show_words.specs.Words.{Asked}
+use Rattle.fluent_show_words.specs.WordsView.{asked_view, text_view}
+use Rattle.fluent_show_words.specs.PluralsView.{plurals_view}
 use Rattle.fluent_show_cli.specs.Inside.OutputProgress.{Stops, Took}
 use Rattle.fluent_show_cli.proofs.Adding.{added_to_none, whole_added}
 use Rattle.fluent_show_cli.proofs.Stopping.{stops_whole}

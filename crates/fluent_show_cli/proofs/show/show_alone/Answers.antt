@@ -10,9 +10,10 @@ use Rattle.fluent_semantics.specs.Value.{Plurals}
 use Rattle.fluent_resolver_state.specs.Status.{reported}
 use Rattle.fluent_bundle.specs.BundleView.{value_at}
 use Rattle.fluent_resource.specs.ResourceView.{entries_of}
-use Rattle.fluent_show_cli.specs.Program.{Asked, Run, adding_errors, after_errors, bundle_of, in_pieces, junk_errors, run_alone, run_entries, run_value}
-use Rattle.fluent_show_cli.specs.Inside.WordsView.{asked_view}
-use Rattle.fluent_show_cli.specs.Inside.PluralsView.{plurals_view}
+use Rattle.fluent_show_cli.specs.Program.{Run, adding_errors, after_errors, bundle_of, in_pieces, junk_errors, run_alone, run_entries, run_value}
+use Rattle.fluent_show_words.specs.Words.{Asked}
+use Rattle.fluent_show_words.specs.WordsView.{asked_view}
+use Rattle.fluent_show_words.specs.PluralsView.{plurals_view}
 use Rattle.fluent_show_cli.specs.Inside.BundleView.{bundle_view}
 use Rattle.fluent_show_cli.specs.Inside.OutputProgress.{Added, Stops, Took, TookPart}
 use Rattle.fluent_show_cli.proofs.Adding.{added_short, added_then, adds_then, whole_added}

@@ -1,6 +1,6 @@
 use Rattle.std.proofs.Common.{rules, ◌≡◌, ◌≢◌, ◌∙◌, sym, ap, refl, inr, true, false, Ok, is_ok, ◌∷◌, []}
 use Rattle.fluent_show_cli.specs.Inside.BundleView.{args_view, bundle_view}
-use Rattle.fluent_show_cli.specs.Inside.WordsView.{asked_view}
+use Rattle.fluent_show_words.specs.WordsView.{asked_view}
 use Rattle.fluent_show_cli.proofs.Found.{adds_fault, adds_line, is_shown, part_fault, puts_fault, puts_line, puts_none}
 use Rattle.fluent_show_cli.proofs.Stopping.{stops_writing}
 use Rattle.fluent_show_cli.proofs.Taking.{took_put, took_recast}

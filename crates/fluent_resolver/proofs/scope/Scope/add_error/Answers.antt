@@ -1,5 +1,5 @@
 use Rattle.fluent_bundle_entries.specs.IdNumbers.{table}
-use Rattle.fluent_resolver_state.specs.Facts.Trails.{idle_kept}
+use Rattle.fluent_path.specs.Facts.{idle_kept}
 use Rattle.fluent_resolver_state.specs.Status.{state_parts}
 use Rattle.fluent_resolver.specs.ScopeView.{scope_parts}
 use Rattle.fluent_resolver.proofs.Homes.{outside_kept}

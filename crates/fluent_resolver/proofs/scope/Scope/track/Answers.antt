@@ -1,7 +1,7 @@
 use Rattle.std.proofs.Common.{rules, sym, ap}
 use Rattle.fluent_bundle_entries.specs.IdNumbers.{table}
 use Rattle.fluent_ast.specs.View.{inline_view, pattern_view}
-use Rattle.fluent_resolver_state.specs.Facts.Trails.{idle_path}
+use Rattle.fluent_path.specs.Facts.{idle_path}
 use Rattle.fluent_resolver_state.specs.Status.{environment_view, state_parts}
 use Rattle.fluent_resolver.specs.ScopeView.{scope_parts, status}
 use Rattle.fluent_resolver.proofs.Wholes.{did_by_writer, rested, tracked_whole, tried_events}

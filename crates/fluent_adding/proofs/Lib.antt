@@ -1,0 +1,4 @@
+pub mod Added
+pub mod OneId
+pub mod Waiting
+pub mod Linking

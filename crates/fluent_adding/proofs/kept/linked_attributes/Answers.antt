@@ -1,0 +1,34 @@
+use Rattle.std.proofs.Common.{◌∙◌, sym, subst}
+use Rattle.std.proofs.lemmas.List.{take_all}
+use Rattle.fluent_bundle_entries.specs.KeptLinks.{AreKept, AreOf, patterns}
+use Rattle.fluent_bundle_entries.specs.IdNumbers.{numbers, table}
+use Rattle.fluent_adding.proofs.Linking.{all_kept, all_texts, grows_twice, keeps_twice, one_linked, texts_kept}
+use Rattle.fluent_adding.proofs.kept.linked_attributes.Goals as goal
+
+pub loop-attribute-preserved : goal.loop-attribute-preserved
+loop-attribute-preserved g c =
+    let mid = c.loop-attribute.known in
+    let last = c.link.new.self in
+    let before = c.loop-attribute.invariant.grown in
+    let step = c.in_ok-linked.ensures.grown in
+    record {
+      linked = one_linked (numbers mid) (numbers last) (table mid) (table last) step.0 step.1
+          c.args.attributes.now c.loop-attribute.attribute-index _ c.attribute-item.result _ _ c.in_ok-linked.linked c.loop-attribute-test.true c.attribute-item.is
+          c.in_ok-linked.ensures.linked c.in_ok-push.ensures.items c.loop-attribute.invariant.linked;
+      grown = (keeps_twice _ (numbers mid) (numbers last) before.0 step.0, grows_twice _ (table mid) (table last) before.1 step.1);
+      same = λ answer. c.in_ok-linked.ensures.same answer ∙ c.loop-attribute.invariant.same answer;
+    }
+
+pub returns-then-are_texts-clause-linked : goal.returns-then-are_texts-clause-linked
+returns-then-are_texts-clause-linked g c =
+    let n = numbers c.args.known.now in
+    let t = table c.args.known.now in
+    let as' = c.args.attributes.now in
+    subst (AreKept n t (patterns as')) (sym c.new.ensures.items) (texts_kept n t (patterns as') (sym (all_texts as') ∙ (sym c.are_texts.ensures ∙ c.if-are_texts.true)))
+
+pub returns-clause-linked : goal.returns-clause-linked
+returns-clause-linked g c =
+    let n = numbers c.loop-attribute.known in
+    let t = table c.loop-attribute.known in
+    all_kept n t (patterns c.args.attributes.now) c.loop-attribute.list.items
+    (subst (λ xs. AreOf n t (patterns xs) c.loop-attribute.list.items) (take_all c.loop-attribute.attribute-index c.args.attributes.now c.loop-attribute-test.false) c.loop-attribute.invariant.linked)

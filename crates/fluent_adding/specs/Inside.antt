@@ -1,0 +1,2 @@
+pub mod WaitingEntries
+pub mod AddingSteps
