@@ -18,7 +18,7 @@ pub struct Options<'w> {
 
 /// An option with a text after it.
 #[derive(Clone, Copy)]
-pub enum Named {
+pub(crate) enum Named {
     Cardinal,
     Ordinal,
     Fallback,
@@ -26,14 +26,14 @@ pub enum Named {
 
 /// What a word before the id is.
 #[derive(Clone, Copy)]
-pub enum Word {
+pub(crate) enum Word {
     NoIsolate,
     WithText(Named),
     Other,
 }
 
 /// Which option a word is.
-pub fn word_of(word: &str) -> Word
+pub(crate) fn word_of(word: &str) -> Word
     ensures { result ≡ word_of word.now }
 {
     match word {
@@ -57,7 +57,7 @@ fn once<'w>(before: Option<&'w str>, options: Options<'w>) -> Option<Options<'w>
 
 impl<'w> Options<'w> {
     /// What holds where no option is given.
-    pub fn none() -> Options<'w>
+    pub(crate) fn none() -> Options<'w>
         ensures { options_view result ≡ no_options }
     {
         Options {
@@ -69,7 +69,7 @@ impl<'w> Options<'w> {
     }
 
     /// The same with isolation off; `None` where it was off.
-    pub fn without_isolation(self) -> Option<Options<'w>>
+    pub(crate) fn without_isolation(self) -> Option<Options<'w>>
         ensures { options_seen result ≡ without_isolation (options_view self.entry) }
     {
         if self.isolate {
@@ -83,7 +83,7 @@ impl<'w> Options<'w> {
     }
 
     /// The same with the text of an option; `None` where that had one.
-    pub fn with_text(self, named: Named, text: &'w str) -> Option<Options<'w>>
+    pub(crate) fn with_text(self, named: Named, text: &'w str) -> Option<Options<'w>>
         ensures { options_seen result ≡ with_text named text.now (options_view self.entry) }
     {
         let text = Some(text);
