@@ -49,6 +49,10 @@ none_there : {A : Type 0} (i : ℕ) (o : Option A) → slice_get [] i ≡ o → 
 none_there i None there = refl
 none_there i (Some x) there = absurd (none_at i x there)
 
+-- no number is marked at first
+pub none_marked : (n : ℕ) → is_marked [] n ≡ false
+none_marked n = ap (λ o. unwrap_or o false) (none_there n (slice_get [] n) refl)
+
 one_step : (es : List code.Entry) (i : ℕ) → map entry_view (take (suc i) es) ≡ map entry_view (take i es) ++ at_index es i
 one_step [] zero = refl
 one_step [] (suc i) = ap (λ o. map entry_view (option_to_list o)) (sym (none_there (suc i) (slice_get [] (suc i)) refl))

@@ -173,6 +173,7 @@ impl<
     }
 
     /// What is asked for by id, with what is kept of it.
+    #[inline(always)]
     fn target(&self, id: &str, name: &Option<Identifier<'_>>) -> Option<Target<'_, 's>>
         ensures content { option_map content_at result ≡ pattern_asked id.now name.now
             (⟦<Self as Means>⟧.meaning self.now) }

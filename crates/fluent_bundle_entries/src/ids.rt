@@ -133,7 +133,7 @@ impl<'r, 's, F: Drop> Ids<'r, 's, F> {
         Linked::link(alloc, &mut self.known, &mut self.classes, pattern)
     }
 
-    /// Puts an entry into the slot with this number, in place of what it holds.
+    /// Puts an entry into the slot of its own id, which has this number, in place of what it holds.
     pub fn put(&mut self, number: u32, slot: Slot<'r, 's, F>)
         requires own { (id : Text) × (numbers self.old id ≡ Some number) × IsNamed id slot.entry }
         requires linked { IsLinkedIn self.old slot }

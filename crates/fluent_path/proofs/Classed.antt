@@ -132,7 +132,7 @@ size_of : (es : List Element) → size (pattern_of es) ≡ length es
 size_of [] = refl
 size_of (e ∷ es) = ap suc (size_of es)
 
-view_pattern : (p : of_pattern.Pattern) → pattern_view p ≡ pattern_of (map element_view p.elements.items)
+pub view_pattern : (p : of_pattern.Pattern) → pattern_view p ≡ pattern_of (map element_view p.elements.items)
 view_pattern p = search (rules, of_pattern.the_lemmas)
 
 -- a content has as many elements as a pattern of it

@@ -66,6 +66,10 @@ adds_one a b kept r id ls ls' l with_one at pushed same = (
   λ done h. subst (λ ls. AreNumbers (number b) (done ++ r ∷ []) ls) (sym pushed) (numbers_push (number b) done r ls l (keeps_numbers (number a) (number b) kept done ls h) (ap (number b) same ∙ at)),
 )
 
+-- no references
+pub adds_none : {X : Type 0} (a : Entries X) (ls : List ℕ) → AppendsLinks a a ls ls []
+adds_none a ls = (refl, λ done h. subst (λ rs. AreNumbers (number a) rs ls) (sym (append-nil done)) h)
+
 pub adds_on : {X : Type 0} (a b c : Entries X) (ls ls' ls'' : List ℕ) (xs ys : List Reference) → AppendsLinks a b ls ls' xs → AppendsLinks b c ls' ls'' ys → AppendsLinks a c ls ls'' (xs ++ ys)
 adds_on a b c ls ls' ls'' xs ys first second = (
   slots_on a b c xs ys first.0 second.0,

@@ -1,6 +1,8 @@
+mod Bare
 mod Distinct
 mod Fed
 mod Gathered
 mod HashedRows
 mod Passed
 mod Slotted
+mod Viewed

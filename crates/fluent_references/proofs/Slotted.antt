@@ -12,6 +12,7 @@ use Rattle.std.specs.Cmp.Lexicographic.{nat_list_eq_equiv}
 use Rattle.std.specs.List.{position_or_len}
 use Rattle.std.specs.Map.{lookup, keys_of}
 use Rattle.std.specs.Option.{option_map, option_copied}
+use Rattle.std.specs.Result.{IsErr}
 use Rattle.std.specs.Str.{bytes_eq}
 use Rattle.indexmap.proofs.MapLemmas.{Found-position, Missing-position, some_index}
 use Rattle.indexmap.proofs.CallerLemmas.{insert_entry-new}
@@ -183,6 +184,10 @@ if_ok (Err e) index at h is = tt
 pub on_ok : {A E P : Type 0} (r : Result A E) → P → OnOk r P
 on_ok (Ok a) p = p
 on_ok (Err e) p = tt
+
+pub no_ok : {A E : Type 0} (P : Type 0) (r : Result A E) → IsErr r → OnOk r P
+no_ok P (Ok a) h = absurd (true≢false (sym h))
+no_ok P (Err e) h = tt
 
 pub on_err : {A E P : Type 0} (r : Result A E) → P → OnErr r P
 on_err (Ok a) p = tt

@@ -3,13 +3,10 @@
 
 ghost use Rattle.std.specs.Prelude.{◌≡◌, [], None, OnOk};
 ghost use Rattle.fluent_ast.specs.References.{in_expression, in_inline, in_variants, variants_view};
-ghost use Rattle.fluent_ast.specs.ReferencesOf.{of_inline};
 ghost use Rattle.fluent_ast.specs.Tree.{select};
 ghost use Rattle.fluent_ast.specs.View.{expression_view, inline_view};
 ghost use Rattle.fluent_values.specs.View.{value_view};
 ghost use Rattle.fluent_bundle_entries.specs.IdNumbers.{IsPlaced, numbers};
-ghost use Rattle.fluent_references.specs.Cursors.{seen};
-ghost use Rattle.fluent_references.specs.Links.{past};
 ghost use Rattle.fluent_resolver_state.specs.ChosenView.{BeginsAt, chosen_view};
 ghost use Rattle.fluent_resolver.specs.Inside.Parts as parts;
 ghost use Rattle.fluent_resolver.specs.Inside.Parts.{IsSelect};
@@ -18,6 +15,7 @@ ghost use Rattle.fluent_resolver.specs.Frames.{made, selector_value, AreReady, G
 
 use crate::arguments::resolve;
 use crate::inline_expression::write_unbraced;
+use crate::passing::passed_inline;
 use crate::pattern::{write_elements, write_variant_text};
 use crate::work::Work;
 use fluent_ast::ast::{Expression, InlineExpression, Variant};
@@ -113,17 +111,6 @@ pub(crate) fn innermost<'p, 's>(expression: &'p Expression<'s>) -> &'p Expressio
     inner
 }
 
-/// After a selector, which is passed over without a call where no link is left.
-#[inline(always)]
-fn after_selector<'b>(cursor: Cursor<'b>, selector: &InlineExpression<'_>) -> Cursor<'b>
-    ensures { seen result ≡ past (of_inline selector.now) (seen cursor.entry) }
-{
-    if cursor.first().is_none() {
-        return cursor;
-    }
-    cursor.after_inline(selector)
-}
-
 /// Writes the variant of a select that its selector's value goes to.
 #[cycle(resolve)]
 #[inline(never)]
@@ -146,7 +133,7 @@ fn write_select<'p, 's, 'args, W: Write, C: FluentType, F: FluentFunction<C>, B:
     match expression {
         Expression::Select { selector, variants } => match selector {
             InlineExpression::VariableReference { id } => {
-                let after = after_selector(cursor, selector);
+                let after = passed_inline(cursor, selector);
                 let chosen = choose_by_variable(scope, selector, id, variants, after)?;
                 write_chosen(scope, out, work, levels, chosen)
             }
@@ -176,7 +163,7 @@ fn write_by_value<'p, 's, 'args, W: Write, C: FluentType, F: FluentFunction<C>, 
         (λ x. None) scope out work }
     ensures placed { OnOk result (AreReady scope.new.ids.now work.new) }
 {
-    let after = cursor.after_inline(selector);
+    let after = passed_inline(cursor, selector);
     match resolve(scope, out, work, levels, selector, cursor)? {
         Some(value) => choose_variant(scope, out, work, levels, variants, after, &value),
         None => work.wait_choose(variants, after),

@@ -8,6 +8,7 @@ mod inline_expression;
 mod leaf;
 mod machine;
 pub mod means;
+mod passing;
 mod pattern;
 pub mod scope;
 mod tracking;

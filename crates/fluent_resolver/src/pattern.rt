@@ -3,14 +3,11 @@
 
 ghost use Rattle.std.specs.Prelude.{◌≡◌, ◌≢◌, [], Err, IsTrue, None, OnOk, Some};
 ghost use Rattle.fluent_ast.specs.References.{in_expression, references};
-ghost use Rattle.fluent_ast.specs.ReferencesOf.{of_element};
 ghost use Rattle.fluent_ast.specs.View.{expression_view, pattern_view};
 ghost use Rattle.fluent_semantics.specs.Meaning.{limit_reached};
 ghost use Rattle.fluent_semantics.specs.Walk.{has_one};
 ghost use Rattle.fluent_bundle_entries.specs.IdNumbers.{IsPlaced};
 ghost use Rattle.fluent_bundle_entries.specs.Texts.{IsTextAlone, sole_text};
-ghost use Rattle.fluent_references.specs.Cursors.{seen};
-ghost use Rattle.fluent_references.specs.Links.{past};
 ghost use Rattle.fluent_resolver_state.specs.Status.{budget_view, stored_in};
 ghost use Rattle.fluent_values.specs.Sinks.{GoesThrough};
 ghost use Rattle.fluent_resolver.specs.Inside.Parts as parts;
@@ -18,8 +15,9 @@ ghost use Rattle.fluent_resolver.specs.Inside.Waits.{frames_in};
 ghost use Rattle.fluent_resolver.specs.Frames.{elements_from, AreReady, Goes, Passes};
 
 use crate::expression::write_expression;
+use crate::passing::passed;
 use crate::work::Work;
-use fluent_ast::ast::{Expression, InlineExpression, Pattern, PatternElement};
+use fluent_ast::ast::{Expression, Pattern, PatternElement};
 use fluent_references::Cursor;
 use fluent_resolver_state::State;
 use fluent_resolver_state::lost::report_limit;
@@ -120,22 +118,6 @@ pub(crate) fn write_from<
         next += 1;
     }
     Ok(())
-}
-
-/// After an element of a pattern. Most are passed over without a call: all where no link is left, and references to messages.
-#[inline(always)]
-fn passed<'b>(cursor: Cursor<'b>, element: &PatternElement<'_>) -> Cursor<'b>
-    ensures { seen result ≡ past (of_element element.now) (seen cursor.entry) }
-{
-    if cursor.first().is_none() {
-        return cursor;
-    }
-    match element {
-        PatternElement::Placeable {
-            expression: Expression::Inline(InlineExpression::MessageReference { .. }),
-        } => cursor.after_one(),
-        _ => cursor.after_element(element),
-    }
 }
 
 /// Writes a placeable of a pattern, which is all of it or not.

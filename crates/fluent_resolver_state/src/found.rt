@@ -73,6 +73,7 @@ pub fn message<'p, 's, F>(
 }
 
 /// The same by look-up, from outside a pattern.
+#[inline(always)]
 pub fn by_id<'p, 's, F>(
     ids: &'p Ids<'_, 's, F>,
     id: &str,

@@ -1244,8 +1244,8 @@ expression::write_by_value-choose_variant-requires g t c =
     let last = viewed c.resolve.new.out b (values_view content (values_in off)) in
     let there = λ (k : Bundle Text → Following) (n : ℕ). goes c.in_ok-value.was (way k n) (c.resolve.ensures.goes (next k) (suc n)) in
     let stored = (there no_more 0).happened.stays.stored in
-    let cursor = placed_still a b (in_variants vs) c.after_inline-after.result stored (placed_back a.stored.numbers (in_expression (select x vs)) (in_inline x) (in_variants vs) c.args.cursor c.after_inline-after.result refl c.after_inline-after.ensures c.requires.placed) in
-    let here = placed_as b.stored.numbers (in_variants vs) (in_variants (variants_view c.deref.result.now)) c.after_inline-after.result (ap (λ ys. in_variants (variants_view ys)) (sym c.deref.ensures.value)) cursor in
+    let cursor = placed_still a b (in_variants vs) c.passed_inline-after.result stored (placed_back a.stored.numbers (in_expression (select x vs)) (in_inline x) (in_variants vs) c.args.cursor c.passed_inline-after.result refl c.passed_inline-after.ensures c.requires.placed) in
+    let here = placed_as b.stored.numbers (in_variants vs) (in_variants (variants_view c.deref.result.now)) c.passed_inline-after.result (ap (λ ys. in_variants (variants_view ys)) (sym c.deref.ensures.value)) cursor in
     λ κs h. (falls_to c.decreases (omega arith), (h.0, (h.1.0, (h.1.1.0, (h.1.1.1, (here, whole_if c.in_ok-value.field-0 c.in-Some.value off c.in-Some.is c.in_ok-value.ensures.whole))))))
 
 pub expression::write_by_value-returns-in-Some : goal.expression::write_by_value-returns-in-Some
@@ -1295,7 +1295,7 @@ expression::write_by_value-returns-in-None g t c =
     let last = viewed c.resolve.new.out b (values_view content (values_in off)) in
     let there = λ (k : Bundle Text → Following) (n : ℕ). goes c.in_ok-value.was (way k n) (c.resolve.ensures.goes (next k) (suc n)) in
     let stored = (there no_more 0).happened.stays.stored in
-    let cursor = placed_still a b (in_variants vs) c.after_inline-after.result stored (placed_back a.stored.numbers (in_expression (select x vs)) (in_inline x) (in_variants vs) c.args.cursor c.after_inline-after.result refl c.after_inline-after.ensures c.requires.placed) in
+    let cursor = placed_still a b (in_variants vs) c.passed_inline-after.result stored (placed_back a.stored.numbers (in_expression (select x vs)) (in_inline x) (in_variants vs) c.args.cursor c.passed_inline-after.result refl c.passed_inline-after.ensures c.requires.placed) in
     record {
       goes = λ k n.
           let here = turns (ap (λ o. before content b.bundle (frames_in off) (next k b.bundle) (made content o) last) c.in-None.is) (there k n) in

@@ -1,9 +1,22 @@
-use Rattle.std.proofs.Common.{◌∙◌, ◌++◌, ◌∷◌, [], ap, sym, subst, refl, is_some}
-use Rattle.fluent_adding.specs.Inside.WaitingEntries.{AreReady, Waits, given_by}
+use Rattle.std.proofs.Common.{◌≡◌, ◌∙◌, ◌++◌, ◌||◌, ◌∷◌, [], ap, nat_eq, sym, subst, refl, is_some, true, false, Bool, List, ℕ}
+use Rattle.fluent_adding.specs.Inside.WaitingEntries.{AreReady, Waits, given_by, has_number}
 use Rattle.fluent_bundle_entries.specs.IdNumbers.{numbers, table}
 use Rattle.fluent_adding.specs.declared.ready.Ready.{Ready}
 use Rattle.fluent_adding.proofs.Waiting.{given_more, is_ready, ready_more, ready_still}
 use Rattle.fluent_adding.proofs.adding.make_ready.Goals as goal
+
+either : (a b c : Bool) → (a || (b || c)) ≡ ((a || b) || c)
+either true b c = refl
+either false b c = refl
+
+or_none : (b : Bool) → (b || false) ≡ b
+or_none true = refl
+or_none false = refl
+
+-- one number more
+has_more : (n : ℕ) (r : Ready) (rs : List Ready) → has_number (rs ++ r ∷ []) n ≡ (has_number rs n || nat_eq r.number n)
+has_more n r [] = or_none (nat_eq r.number n)
+has_more n r (x ∷ rs) = ap (λ b. nat_eq x.number n || b) (has_more n r rs) ∙ either (nat_eq x.number n) (has_number rs n) (nat_eq r.number n)
 
 pub returns-clause-ready : goal.returns-clause-ready
 returns-clause-ready g c = λ es here h.
@@ -23,3 +36,6 @@ returns-clause-ready g c = λ es here h.
 
 pub returns-clause-more : goal.returns-clause-more
 returns-clause-more g c = λ es. ap (given_by es) c.in_ok-push.ensures.list ∙ given_more es c.args.waiting.now.list.items _
+
+pub returns-clause-number : goal.returns-clause-number
+returns-clause-number g c = λ n. ap (λ rs. has_number rs n) c.in_ok-push.ensures.list ∙ has_more n _ c.args.waiting.now.list.items

@@ -1,9 +1,18 @@
-use Rattle.std.proofs.Common.{◌∙◌, sym, subst}
+use Rattle.std.proofs.Common.{◌∙◌, [], sym, subst, refl}
 use Rattle.std.proofs.lemmas.List.{take_all}
 use Rattle.fluent_bundle_entries.specs.KeptLinks.{AreKept, AreOf, patterns}
 use Rattle.fluent_bundle_entries.specs.IdNumbers.{numbers, table}
-use Rattle.fluent_adding.proofs.Linking.{all_kept, all_texts, grows_twice, keeps_twice, one_linked, texts_kept}
+use Rattle.fluent_adding.proofs.Linking.{all_kept, all_texts, grown_twice, grows_twice, keeps_twice, one_linked, texts_kept}
 use Rattle.fluent_adding.proofs.kept.linked_attributes.Goals as goal
+
+pub loop-attribute-init : goal.loop-attribute-init
+loop-attribute-init g c =
+    let first = c.args.known.now in
+    record {
+      linked = subst (AreOf (numbers first) (table first) []) (sym c.in_ok-list.ensures.items) tt;
+      grown = (λ id n h. h, λ n p h. h);
+      same = λ answer. refl;
+    }
 
 pub loop-attribute-preserved : goal.loop-attribute-preserved
 loop-attribute-preserved g c =
@@ -32,3 +41,15 @@ returns-clause-linked g c =
     let t = table c.loop-attribute.known in
     all_kept n t (patterns c.args.attributes.now) c.loop-attribute.list.items
     (subst (λ xs. AreOf n t (patterns xs) c.loop-attribute.list.items) (take_all c.loop-attribute.attribute-index c.args.attributes.now c.loop-attribute-test.false) c.loop-attribute.invariant.linked)
+
+pub returns-in_err-linked-clause-grown : goal.returns-in_err-linked-clause-grown
+returns-in_err-linked-clause-grown g c = grown_twice c.args.known.now c.loop-attribute.known c.link.new.self c.loop-attribute.invariant.grown c.link.ensures.grown
+
+pub returns-in_err-linked-clause-same : goal.returns-in_err-linked-clause-same
+returns-in_err-linked-clause-same g c = λ answer. c.link.ensures.same answer ∙ c.loop-attribute.invariant.same answer
+
+pub returns-in_err-push-clause-grown : goal.returns-in_err-push-clause-grown
+returns-in_err-push-clause-grown g c = grown_twice c.args.known.now c.loop-attribute.known c.link.new.self c.loop-attribute.invariant.grown c.link.ensures.grown
+
+pub returns-in_err-push-clause-same : goal.returns-in_err-push-clause-same
+returns-in_err-push-clause-same g c = λ answer. c.link.ensures.same answer ∙ c.loop-attribute.invariant.same answer

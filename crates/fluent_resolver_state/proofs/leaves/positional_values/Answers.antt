@@ -1,5 +1,6 @@
-use Rattle.std.proofs.Common.{rules, refl, ap, ◌∙◌, [], ◌∷◌, ◌++◌, ◌+◌, append_assoc, drop, map, Ok}
+use Rattle.std.proofs.Common.{rules, refl, ap, sym, ◌∙◌, [], ◌∷◌, ◌++◌, ◌+◌, append-nil, append_assoc, drop, map, Ok}
 use Rattle.fluent_ast.specs.View.{inline_view}
+use Rattle.fluent_resolver_state.specs.Facts.Lists.{none_left}
 use Rattle.fluent_resolver_state.specs.Facts.Reporting.{none_yet, some_as, some_fails, some_of_none, some_ok, some_on}
 use Rattle.fluent_resolver_state.specs.Gathered.{values_of}
 use Rattle.fluent_resolver_state.specs.Leaves.{errors_of_leaves, leaf_errors, leaf_value, leaf_values}
@@ -78,3 +79,19 @@ loop-argument-preserved g c =
           ∙ ap (λ vs. before ++ vs) (next_value a.environment xs i x c.loop-argument-test.true c.argument-item.is)
           ∙ so_far.values;
     }
+
+pub returns-clause-reports : goal.returns-clause-reports
+unfolding state_parts
+returns-clause-reports g c =
+    let a = state g.B.Context.meant g.B.Context.is_plain g.F.FluentFunction.answer g.C.FluentType.content c.args.scope.now in
+    let so_far = c.loop-argument.invariant in
+    let none = none_left c.args.arguments.now c.loop-argument.argument-index c.loop-argument-test.false in
+    some_ok refl (some_as (sym (append-nil so_far.told) ∙ ap (λ xs. so_far.told ++ errors_of_leaves a.environment xs) (sym none) ∙ so_far.left) so_far.so_far)
+
+pub returns-clause-values : goal.returns-clause-values
+unfolding state_parts
+returns-clause-values g c =
+    let a = state g.B.Context.meant g.B.Context.is_plain g.F.FluentFunction.answer g.C.FluentType.content c.args.scope.now in
+    let so_far = c.loop-argument.invariant in
+    let none = none_left c.args.arguments.now c.loop-argument.argument-index c.loop-argument-test.false in
+    sym (append-nil (values_of g.C.FluentType.content c.loop-argument.values)) ∙ ap (λ xs. values_of g.C.FluentType.content c.loop-argument.values ++ leaf_values a.environment xs) (sym none) ∙ so_far.values

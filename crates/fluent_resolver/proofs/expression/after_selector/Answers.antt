@@ -1,8 +1,0 @@
-use Rattle.std.proofs.Common.{rules}
-use Rattle.fluent_ast.specs.ReferencesOf.{of_inline}
-use Rattle.fluent_references.specs.Cursors.{seen}
-use Rattle.fluent_resolver.proofs.NoLinks.{nothing_left}
-use Rattle.fluent_resolver.proofs.expression.after_selector.Goals as goal
-
-pub returns-then-is_none : goal.returns-then-is_none
-returns-then-is_none c = nothing_left (seen c.args.cursor) (of_inline c.args.selector.now) (search (rules, c.first.ensures, c.is_none.ensures, c.if-is_none.true))
