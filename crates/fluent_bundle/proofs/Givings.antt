@@ -1,6 +1,7 @@
 -- What formatting answers as a text.
-use Rattle.std.proofs.Common.{rules, ◌≡◌, refl, sym, ap, subst, ◌∙◌, List, [], ◌++◌, append-nil, Option, Some, None, Result, Global}
+use Rattle.std.proofs.Common.{rules, ◌≡◌, refl, sym, ap, subst, ◌∙◌, List, [], ◌++◌, append-nil, Option, Some, None, Result, String, string_bytes, Global}
 use Rattle.std.specs.Prelude.{true, false, ◌≤◌, ◌&&◌, not, is_some, if◌then◌else◌}
+use Rattle.std.specs.Option.{option_map}
 use Rattle.std.specs.declared.borrow.CowStr.{CowStr}
 use Rattle.fluent_ast.specs.Tree.{Text, Pattern, nothing, more, text, placeable}
 use Rattle.fluent_semantics.specs.Errors.{Error}
@@ -31,6 +32,10 @@ pub sole_known : {X Y : Type 0} (o : Option X) (f : Option Y) (p : Pattern) (t :
 sole_known None None p t r h is a b = h ∙ is
 sole_known None (Some f) p t r h is a b = absurd cc
 sole_known (Some x) f p t r h is a b = absurd cc
+
+-- so where nothing was made there, it isn't one
+pub never_sole : {X Y : Type 0} (o : Option X) (f : Option Y) (p : Pattern) (t : Text) → None ≡ (if not (is_some o) && not (is_some f) then sole_text p else None) → sole_text p ≡ Some t → o ≡ None → f ≡ None → ⊥
+never_sole o f p t h is a b = let never : None ≡ Some t = sole_known o f p t None h is a b in cc
 
 -- where it is written at once, there is no transform
 pub at_once_where : {X : Type 0} (o : Option X) (p : Pattern) (t : Text) → Some t ≡ (if not (is_some o) then sole_text p else None) → (o ≡ None) × (sole_text p ≡ Some t)
@@ -70,3 +75,14 @@ none_added b env p t list is = record { added = sym (ap (λ es. reported list ++
 
 pub no_prefix_added : (errors : List Error) (list : List FluentError) → AddsPrefix errors list list
 no_prefix_added errors list = record { prefix = []; rest = errors; whole = refl; adds = record { added = sym (append-nil (reported list)) } }
+
+-- what the formatter shows a text as that was made, and that text where it shows none
+module _ (b : Bundle Text) (made all : Text) (answer : Option (String Global)) (is : made ≡ all) (asked : option_map string_bytes answer ≡ b.formatter (text_value made)) where
+  shown_so : (o : Option (String Global)) → answer ≡ o → unless_formatted (option_map string_bytes o) all ≡ formatted b all
+  shown_so o there = ap (λ t. unless_formatted t all) (sym (ap (option_map string_bytes) there) ∙ asked ∙ ap (λ t. b.formatter (text_value t)) is)
+
+  pub formatted_some : (shown : String Global) → answer ≡ Some shown → string_bytes shown ≡ formatted b all
+  formatted_some shown there = shown_so (Some shown) there
+
+  pub formatted_none : answer ≡ None → all ≡ formatted b all
+  formatted_none there = shown_so None there

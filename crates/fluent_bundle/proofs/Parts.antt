@@ -1,7 +1,10 @@
 -- What the parts of a message gave, one after the other.
-use Rattle.std.proofs.Common.{◌≡◌, ℕ, zero, suc, ◌+◌, ◌<◌, ◌≤◌, List, [], ◌∷◌, ◌++◌, append-nil, append_assoc, map, length, get_or, take, drop, refl, sym, ap, subst, ◌∙◌, arith}
+use Rattle.std.proofs.Common.{◌≡◌, ℕ, zero, suc, ◌+◌, ◌<◌, ◌≤◌, List, [], ◌∷◌, ◌++◌, append-nil, append_assoc, map, length, get_or, take, drop, refl, sym, ap, subst, ◌∙◌, Option, Global, arith}
 use Rattle.std.proofs.lemmas.List.{map-append}
 use Rattle.std.proofs.lemmas.Grind.{flat_map-append}
+use Rattle.std.specs.Cow.{cow_str_bytes}
+use Rattle.std.specs.Option.{option_map}
+use Rattle.std.specs.declared.borrow.CowStr.{CowStr}
 use Rattle.fluent_ast.specs.Tree.{Text, Pattern, Attributes}
 use Rattle.fluent_ast.specs.View.{attribute_view}
 use Rattle.fluent_ast.specs.declared.ast.Attribute.{Attribute}
@@ -11,7 +14,7 @@ use Rattle.fluent_semantics.specs.Arguments.{Map}
 use Rattle.fluent_semantics.specs.Bundle.{Bundle}
 use Rattle.fluent_resolver_state.specs.Status.{reported}
 use Rattle.fluent_bundle_entries.specs.declared.errors.FluentError.{FluentError}
-use Rattle.fluent_bundle.specs.Formatted.{AddsAll, AddsPrefix, attribute_errors, attribute_shown, attribute_texts, errors_of, text_of}
+use Rattle.fluent_bundle.specs.Formatted.{AddsAll, AddsPrefix, attribute_errors, attribute_shown, attribute_texts, errors_of, text_of, value_text, MessageText}
 use Rattle.fluent_bundle.specs.declared.messages.FormattedAttribute.{FormattedAttribute}
 
 -- ---- errors that are added one after the other
@@ -66,6 +69,10 @@ all_parts f (y ∷ xs) (suc i) x fits is = ap (λ l. f y ∷ l) (all_parts f xs 
 
 -- ---- attributes so far, and one more
 
+-- a value and attributes
+abbrev told : Option Text → List (Text × Text) → MessageText
+told value attributes = record { value = value; attributes = attributes }
+
 module _ (b : Bundle Text) (args : Map (Value Text)) where
   pub texts_more : (made made' : List FormattedAttribute) (a : FormattedAttribute) (done done' : Attributes) (v : Text × Pattern) → made' ≡ made ++ a ∷ [] → map attribute_shown made ≡ attribute_texts b args done
       → done' ≡ done ++ v ∷ [] → attribute_shown a ≡ (v.0, text_of b args v.1) → map attribute_shown made' ≡ attribute_texts b args done'
@@ -92,12 +99,20 @@ module _ (b : Bundle Text) (args : Map (Value Text)) where
       subst (λ es. AddsPrefix es list list'') (sym (ap (attribute_errors b args) parts ∙ errors_then done left v))
       (prefix_second (attribute_errors b args done) (errors_of b args v.1 ++ attribute_errors b args left) list list' list'' h (prefix_first (errors_of b args v.1) (attribute_errors b args left) list' list'' k))
 
-  -- all that is left of a list that was gone over
-  pub prefix_of_done : (xs : List Attribute) (n : ℕ) (list list' : List FluentError) → length xs ≤ n → AddsAll (attribute_errors b args (map attribute_view (take n xs))) list list' → AddsPrefix (attribute_errors b args (map attribute_view xs)) list list'
-  prefix_of_done xs n list list' fits h =
-      subst (λ ys. AddsPrefix (attribute_errors b args (map attribute_view ys)) list list') (take_all xs n fits) (prefix_of_all (attribute_errors b args (map attribute_view (take n xs))) list list' h)
+  -- a list that was gone over
+  pub texts_of_done : (xs : List Attribute) (n : ℕ) (made : List FormattedAttribute) → length xs ≤ n → map attribute_shown made ≡ attribute_texts b args (map attribute_view (take n xs)) → map attribute_shown made ≡ attribute_texts b args (map attribute_view xs)
+  texts_of_done xs n made fits h = h ∙ ap (λ ys. attribute_texts b args (map attribute_view ys)) (take_all xs n fits)
+
+  pub errors_of_done : (xs : List Attribute) (n : ℕ) (list list' : List FluentError) → length xs ≤ n → AddsAll (attribute_errors b args (map attribute_view (take n xs))) list list' → AddsAll (attribute_errors b args (map attribute_view xs)) list list'
+  errors_of_done xs n list list' fits = subst (λ ys. AddsAll (attribute_errors b args (map attribute_view ys)) list list') (take_all xs n fits)
 
   -- attributes after a value
+  pub parts_texts : (value : Option (CowStr Global)) (p : Option Pattern) (made : List FormattedAttribute) (xs ys : List Attribute) → xs ≡ ys → option_map cow_str_bytes value ≡ value_text b args p → map attribute_shown made ≡ attribute_texts b args (map attribute_view xs)
+      → told (option_map cow_str_bytes value) (map attribute_shown made) ≡ told (value_text b args p) (attribute_texts b args (map attribute_view ys))
+  parts_texts value p made xs ys same h k =
+      ap (λ v. told v (map attribute_shown made)) h
+      ∙ ap (told (value_text b args p)) (k ∙ ap (λ zs. attribute_texts b args (map attribute_view zs)) same)
+
   pub parts_all : (es : List Error) (xs ys : List Attribute) (list list' list'' : List FluentError) → xs ≡ ys → AddsAll es list list' → AddsAll (attribute_errors b args (map attribute_view xs)) list' list''
       → AddsAll (es ++ attribute_errors b args (map attribute_view ys)) list list''
   parts_all es xs ys list list' list'' same h k =

@@ -21,6 +21,10 @@ pub on_ok : {T E P : Type 0} (r : Result T E) → P → OnOk r P
 on_ok (Ok x) p = p
 on_ok (Err e) p = tt
 
+-- a bundle that is as it was
+pub kept_as_is : {M C F G X : Type 0} (b : FluentBundle M C F G X) → KeepsSettings b b
+kept_as_is b = record { beside = record { locales = refl; intls = refl }; transform = refl; formatter = refl }
+
 -- ---- one list of calls after another
 
 after_more : {C : Type 0} (cs ds : List (m.Call C)) (b : Bundle C) → after_all (cs ++ ds) b ≡ after_all ds (after_all cs b)

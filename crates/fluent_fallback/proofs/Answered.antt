@@ -9,10 +9,10 @@ use Rattle.std.specs.declared.borrow.CowStr.TheVariants.{Borrowed, Owned}
 use Rattle.fluent_text.specs.Unescaped.{Borrows}
 use Rattle.std.specs.Io.KnownBytes.{Appends}
 use Rattle.fluent_text.specs.Taken.{TookPrefix}
-use Rattle.fluent_text.specs.Writer.{writer_in}
+use Rattle.fluent_text.specs.Writer.{empty_in, failed_in, writer_in, CountsFault, Faulted}
 use Rattle.fluent_text.specs.declared.counting.Counting.{Counting}
 use Rattle.fluent_text.specs.declared.counting.WriteFault.{WriteFault}
-use Rattle.fluent_text.specs.declared.counting.WriteFault.TheVariants.{Memory}
+use Rattle.fluent_text.specs.declared.counting.WriteFault.TheVariants.{Memory, Writer, Zero}
 use Rattle.fluent_ast.specs.Tree.{Text, Pattern}
 use Rattle.fluent_semantics.specs.Arguments.{Map}
 use Rattle.fluent_semantics.specs.Bundle.{Bundle}
@@ -200,3 +200,22 @@ module _ {M C F G X W : Type 0} (of : FluentBundle M C F G X → Bundle Text) (h
         whole = puts_alone r piece id _ _ _ is whole;
         prefix = prefix_alone r piece id _ _ _ is whole prefix;
       }))
+
+-- ---- which count of the writer a fault raised
+
+fault_as : (T U : Type 0) (failed empty failed' empty' : ℕ) (e : WriteFault) → Faulted {T = T} failed empty failed' empty' (Err e) → Faulted {T = U} failed empty failed' empty' (Err e)
+fault_as T U failed empty failed' empty' (Writer k) h = h
+fault_as T U failed empty failed' empty' Zero h = h
+fault_as T U failed empty failed' empty' Memory h = h
+
+module _ {T W : Type 0} (start w w' : Counting W) (r : Result T WriteFault) (begun : w ≡ start) (counts : CountsFault w w' r) where
+  -- of a bundle where it came
+  pub faults_on : {U : Type 0} (r' : Result U WriteFault) (e : WriteFault) → r ≡ Err e → r' ≡ Err e → CountsFault start w' r'
+  faults_on {U} r' e is on =
+      let there : CountsFault {T = T} w w' (Err e) = subst (CountsFault w w') is counts in
+      subst (λ q. CountsFault {T = U} start w' q) (sym on)
+      (subst (λ v. CountsFault {T = U} v w' (Err e)) begun (fault_as T U (failed_in w) (empty_in w) (failed_in w') (empty_in w') e there))
+
+  -- of one that answered
+  pub no_fault : {U : Type 0} (x : T) (y : U) → r ≡ Ok x → CountsFault {T = U} start w' (Ok y)
+  no_fault {U} x y is = subst (λ v. CountsFault {T = U} v w' (Ok y)) begun (subst (CountsFault w w') is counts)

@@ -1,6 +1,11 @@
 -- The first bundle that has a pattern.
-use Rattle.std.proofs.Common.{◌≡◌, ◌∙◌, sym, ap, subst, refl, ℕ, Bool, true, false, cond, suc, zero, ◌+◌, ◌≤◌, add-one, length, List, [], ◌∷◌, ◌++◌, append-nil, map, drop, Option, Some, None, Result, Ok, Err, OnOk, OnErr, IfOk, String, string_bytes, Global}
+use Rattle.std.proofs.Common.{◌≡◌, ◌∙◌, sym, ap, subst, refl, ℕ, Bool, true, false, cond, suc, zero, ◌+◌, ◌<◌, ◌≤◌, add-one, length, List, [], ◌∷◌, ◌++◌, append-nil, map, drop, Option, Some, None, Result, Ok, Err, OnOk, OnErr, IfOk, is_ok, String, string_bytes, Global}
 use Rattle.std.specs.Prelude.{is_some, ◌||◌, slice_get}
+use Rattle.std.specs.Result.{IsErr, IsErrAnd}
+use Rattle.std.specs.Borrow.{Bor}
+use Rattle.std.specs.Slice.{IsItemAt}
+use Rattle.std.proofs.lemmas.Bool.{true≢false}
+use Rattle.std.proofs.lemmas.Option.{slice_get_past, slice_get_read, slice_get-map}
 use Rattle.std.specs.Cow.{cow_str_bytes}
 use Rattle.std.specs.List.{list_any, position_from}
 use Rattle.std.proofs.Math.Seq.{drop-nil}
@@ -21,7 +26,8 @@ use Rattle.std.specs.declared.alloc.AllocError.{AllocError}
 use Rattle.fluent_semantics.specs.Arguments.{Map}
 use Rattle.fluent_semantics.specs.Bundle.{Bundle}
 use Rattle.fluent_semantics.specs.Value.{Value}
-use Rattle.fluent_fallback.specs.Chain.{index_with, or_others, first_with, GivesOrId, GivesOwned, WritesOrId}
+use Rattle.fluent_fallback.specs.declared.chain.BundleRef.{BundleRef}
+use Rattle.fluent_fallback.specs.Chain.{index_with, or_others, first_with, referred, GivesOrId, GivesOwned, WritesOrId}
 
 -- a bundle that has none is passed over
 pub first_with-none : {B : Type 0} (has : B → Option Pattern) (b : B) (bs : List B) → has b ≡ None → first_with has (b ∷ bs) ≡ first_with has bs
@@ -169,3 +175,30 @@ index_past test bs i index none first =
     ap (λ n. position_from test (i + 1) (drop n bs)) (add-one i)
     ∙ ap (position_from test (i + 1)) (drop-none bs i none ∙ drop-end bs i none)
     ∙ sym (ap (position_from test i) (drop-end bs i none)) ∙ first
+
+pub index_none : {B : Type 0} (test : B → Bool) (bs : List B) (i : ℕ) (index : Option ℕ) → length bs ≤ i → position_from test i (drop i bs) ≡ index → None ≡ index
+index_none test bs i index past first = sym (ap (position_from test i) (drop_of_length-le bs past)) ∙ first
+
+-- what a slice lends at an index stands there
+pub lent_at : {X : Type 0} (xs : List X) (i : ℕ) (o : Option (Bor X)) → IsItemAt xs i o → option_map (λ x. x.now) o ≡ slice_get xs i
+lent_at xs i None at = sym (slice_get_past xs i at.3)
+lent_at xs i (Some x) at = let within : i < length xs = at.3.0 in sym (slice_get_read xs (length xs) i x.now refl within at.1)
+
+pub referred_at : {M C F G X : Type 0} (refs : List (BundleRef M C F G X)) (i : ℕ) (o : Option (Bor (BundleRef M C F G X))) → IsItemAt refs i o → option_map (λ r. r.now.0.now) o ≡ slice_get (referred refs) i
+referred_at refs i None at = sym (slice_get-map (λ r. r.0.now) refs i ∙ ap (option_map (λ r. r.0.now)) (slice_get_past refs i at.3))
+referred_at refs i (Some x) at =
+    let within : i < length refs = at.3.0 in
+    sym (slice_get-map (λ r. r.0.now) refs i ∙ ap (option_map (λ r. r.0.now)) (slice_get_read refs (length refs) i x.now refl within at.1))
+
+-- ---- an error that is passed on
+
+pub passed_on : {A E : Type 0} (r : Result A E) (e : E) → IsErrAnd r (λ x. x ≡ e) → r ≡ Err e
+passed_on (Ok x) e h = absurd h
+passed_on (Err x) e h = ap Err h
+
+pub not_ok : {A E : Type 0} (r : Result A E) → IsErr r → is_ok r ≡ false
+not_ok (Ok x) h = absurd (true≢false (sym h))
+not_ok (Err e) h = refl
+
+pub never_both : {A E : Type 0} (x : A) (e : E) → Ok x ≡ Err e → ⊥
+never_both x e h = cc

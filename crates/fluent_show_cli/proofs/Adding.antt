@@ -1,7 +1,7 @@
 -- Errors that are added at the end of a list, one by one or at once.
-use Rattle.std.proofs.Common.{◌≡◌, ◌∙◌, sym, ap, subst, refl, false, ℕ, List, [], ◌++◌, map, take, drop, append_assoc, append-nil, Result, Ok, Err, is_ok}
+use Rattle.std.proofs.Common.{◌≡◌, ◌∙◌, sym, ap, subst, refl, false, ℕ, ◌+◌, ◌<◌, List, [], ◌∷◌, ◌++◌, map, take, drop, length, get_or, append_assoc, append-nil, Result, Ok, Err, IsErr, is_ok}
 use Rattle.std.specs.Result.{OnOk}
-use Rattle.std.proofs.lemmas.List.{take-append-drop, map-append}
+use Rattle.std.proofs.lemmas.List.{take-append-drop, take_more, map-append}
 use Rattle.std.proofs.lemmas.Result.{on_ok_weaker}
 use Rattle.fluent_semantics.specs.Errors.{Error}
 use Rattle.fluent_resolver_state.specs.Status.{reported}
@@ -48,8 +48,9 @@ added_nothing (Err e) errors old new faulted same = record {
 
 module _ {X : Type 0} (f : X → Error) where
   -- the first ones
-  pub first_added : {T E : Type 0} (e : E) (xs : List X) (i : ℕ) (old new : List FluentError) → reported new ≡ reported old ++ map f (take i xs) → Added {T = T} (Err e) (map f xs) old new
-  first_added e xs i old new so_far = record {
+  pub first_added : {T E : Type 0} (r : Result T E) (xs : List X) (i : ℕ) (old new : List FluentError) → IsErr r → reported new ≡ reported old ++ map f (take i xs) → Added r (map f xs) old new
+  first_added (Ok x) xs i old new failed so_far = cc
+  first_added (Err e) xs i old new failed so_far = record {
     all = tt;
     prefix = record {
       prefix = map f (take i xs);
@@ -58,6 +59,17 @@ module _ {X : Type 0} (f : X → Error) where
       adds = record { added = so_far };
     };
   }
+
+  -- one more
+  pub more_added : (xs : List X) (i : ℕ) (d : X) (e : FluentError) (start old new : List FluentError) → i < length xs → error_view e ≡ f (get_or xs i d) → new ≡ old ++ e ∷ []
+      → reported old ≡ reported start ++ map f (take i xs) → reported new ≡ reported start ++ map f (take (i + 1) xs)
+  more_added xs i d e start old new within is pushed so_far =
+      let one_more = ap (λ x. map f (take i xs) ++ x ∷ []) is ∙ sym (map-append f (take i xs) (get_or xs i d ∷ [])) ∙ ap (map f) (sym (take_more xs i d within)) in
+      ap reported pushed
+      ∙ map-append error_view old (e ∷ [])
+      ∙ ap (λ w. w ++ error_view e ∷ []) so_far
+      ∙ append_assoc (reported start) (map f (take i xs)) (error_view e ∷ [])
+      ∙ ap (λ w. reported start ++ w) one_more
 
 -- The same of an answer that is Ok where this one is.
 pub recast : {T E T' E' : Type 0} (r : Result T E) (r' : Result T' E') (errors errors' : List Error) (old new : List FluentError) → is_ok r' ≡ is_ok r → errors ≡ errors'

@@ -7,8 +7,8 @@ use Rattle.fluent_text.specs.Writer.{Faulted}
 use Rattle.fluent_text.specs.declared.counting.WriteFault.{WriteFault}
 use Rattle.fluent_text.specs.declared.counting.WriteFault.TheVariants.{Memory, Writer, Zero}
 use Rattle.fluent_semantics.specs.Errors.{Error}
-use Rattle.fluent_show_cli.specs.Program.{Ending, exit_status, out_of_memory, ending_line, error_lines, said, Run, First}
-use Rattle.fluent_show_cli.specs.Runs.{as_defined, by_reading, by_writing, by_memory, by_memory_read, by_memory_shown, ReportsRun, whole, short, whole_begun, short_begun, RanTo, IsStopped, unread, unwritten, unsaid, refused, Inlet, ReadFor, Outlet, Precedes, Rose, TakesAll}
+use Rattle.fluent_show_cli.specs.Program.{Ending, exit_status, out_of_memory, ending_line, error_lines, said, Run, First, answer}
+use Rattle.fluent_show_cli.specs.Runs.{AnswersAs, as_defined, by_reading, by_writing, by_memory, by_memory_read, by_memory_shown, ReportsRun, whole, short, whole_begun, short_begun, RanTo, IsStopped, unread, unwritten, unsaid, refused, Inlet, ReadFor, Outlet, Precedes, Rose, TakesAll}
 use Rattle.fluent_show_cli.specs.Inside.Said.{Says, BeganToSay, TookErrors}
 use Rattle.fluent_show_cli.proofs.Taking.{prefix_short, prefix_then}
 
@@ -79,4 +79,25 @@ stopped run first errors input input' out out' err err' result never ran three =
         | by_memory_read same at_end is_text begun left ↦ refused errors (says out_of_memory same)
         | by_memory_shown same at_end is_shown pieces found begun part ↦ refused errors (says out_of_memory same)
       ]
+]
+
+-- one that doesn't came to what it should
+pub worked : (run : Run) (first : First) (errors : List Error) (input input' : Inlet) (out out' err err' : Outlet) (result : ℕ) → RanTo run first errors input input' out out' err err' result
+    → result ≢ 3 → AnswersAs (answer run) result out out' err err'
+worked run first errors input input' out out' err err' result ran not = elim ran.reports [
+  | short is prefix precedes takes ↦ absurd (not is)
+  | whole_begun is faults ↦ absurd (not is)
+  | short_begun is prefix precedes faults ↦ absurd (not is)
+  | whole is takes ↦ elim ran.ends [
+    | as_defined same all written ↦ record {
+      status = is ∙ ap exit_status same;
+      output = written;
+      errors = subst (λ t. TakesAll t err err') (ap (λ es. said es ran.ending) all ∙ ap (said run.errors) same) takes;
+    }
+    | by_reading same none left ↦ absurd (not (is ∙ ap exit_status same))
+    | by_writing same is_shown found begun faults ↦ absurd (not (is ∙ ap exit_status same))
+    | by_memory same unshown none left ↦ absurd (not (is ∙ ap exit_status same))
+    | by_memory_read same at_end is_text begun left ↦ absurd (not (is ∙ ap exit_status same))
+    | by_memory_shown same at_end is_shown pieces found begun part ↦ absurd (not (is ∙ ap exit_status same))
+  ]
 ]

@@ -147,6 +147,15 @@ of_sources asked plurals source (Some fallback) = of_shown
 pub is_of_text : (asked : Asked) (plurals : Plurals) (source : Text) → (run_source asked plurals source).ending ≢ not_utf8
 is_of_text asked plurals source = (of_sources asked plurals source asked.options.fallback).1
 
+pub never_unread : (asked : Asked) (plurals : Plurals) (source : Text) → (run_source asked plurals source).ending ≢ reading_failed
+never_unread asked plurals source failed = (of_sources asked plurals source asked.options.fallback).0.2 (ap exit_status failed)
+
+-- no fault of the output is one of reading
+pub no_read : (fault : WriteFault) → ending_of fault ≢ reading_failed
+no_read Memory failed = cc
+no_read (Writer e) failed = cc
+no_read Zero failed = cc
+
 of_input : (asked : Asked) (plurals : Plurals) (bytes : List ℕ) → IsOfInput (run_input asked plurals bytes).ending
 of_input asked plurals bytes = cases (is_utf8 bytes)
   where

@@ -1,5 +1,5 @@
 -- What comes of a value that is written by id.
-use Rattle.std.proofs.Common.{◌≡◌, ◌≢◌, ◌∙◌, sym, ap, subst, refl, Bool, true, false, [], ◌∷◌, ◌++◌, Option, Some, None, Result, Ok, Err, IfOk, OnOk, is_ok}
+use Rattle.std.proofs.Common.{◌≡◌, ◌∙◌, sym, ap, subst, refl, Bool, true, false, [], ◌∷◌, ◌++◌, Option, Some, None, Result, Ok, Err, IfOk, OnOk, is_ok, append-nil}
 use Rattle.std.proofs.KnownBytes.{Appends-nil}
 use Rattle.fluent_text.specs.Writer.{writer_in}
 use Rattle.fluent_text.specs.declared.counting.Counting.{Counting}
@@ -14,7 +14,7 @@ use Rattle.fluent_show_cli.specs.Program.{shown, no_message, arguments_of, only,
 use Rattle.fluent_show_words.specs.Words.{Asked}
 use Rattle.fluent_show_cli.specs.Inside.Comes.{Errors}
 use Rattle.fluent_show_cli.specs.Inside.OutputProgress.{Added, Took, TookPart}
-use Rattle.fluent_show_cli.proofs.Adding.{always, recast}
+use Rattle.fluent_show_cli.proofs.Adding.{added_by, always, recast}
 use Rattle.fluent_show_cli.proofs.Stopping.{part_written}
 use Rattle.fluent_show_cli.proofs.Taking.{added_written, took_all, took_short, took_then, took_written}
 
@@ -24,12 +24,14 @@ module _ {W : Type 0} (asked : Asked) (bundle : Bundle Text) (args : Map (Value 
   abbrev Wrote : Option Pattern → Type 0
   Wrote value = WritesAsked bundle args value r contents out out' errors errors'
 
-  -- unless the call says that it isn't, there is a text to show
-  pub is_shown : (value : Option Pattern) → Wrote value → r ≢ Ok false → (run_value asked bundle value).ending ≡ shown
-  is_shown None writes not = absurd (not writes.nothing.0)
-  is_shown (Some p) writes not = refl
-
   -- ---- a fault came
+
+  -- so there was a text to show
+  pub shown_before : (e : WriteFault) → r ≡ Err e → (value : Option Pattern) → Wrote value → (run_value asked bundle value).ending ≡ shown
+  shown_before e is None writes =
+      let never : Err e ≡ Ok false = sym is ∙ writes.nothing.0 in
+      cc
+  shown_before e is (Some p) writes = refl
 
   module _ {T : Type 0} (r' : Result T WriteFault) (e : WriteFault) (is : r ≡ Err e) (faulted : is_ok r' ≡ false) where
     pub puts_fault : (value : Option Pattern) → Wrote value → Took r' (run_value asked bundle value).output (contents (writer_in out)) (contents (writer_in out'))
@@ -58,6 +60,13 @@ module _ {W : Type 0} (asked : Asked) (bundle : Bundle Text) (args : Map (Value 
         (part_written bundle args p (law p) writes.prefix)
 
   -- ---- it was written
+
+  -- so there was a text to show
+  pub was_shown : r ≡ Ok true → (value : Option Pattern) → Wrote value → (run_value asked bundle value).ending ≡ shown
+  was_shown is None writes =
+      let never : Ok true ≡ Ok false = sym is ∙ writes.nothing.0 in
+      cc
+  was_shown is (Some p) writes = refl
 
   module _ {T : Type 0} (r' : Result T WriteFault) (is : r ≡ Ok true) where
     -- and a line feed after it
@@ -90,8 +99,18 @@ module _ {W : Type 0} (asked : Asked) (bundle : Bundle Text) (args : Map (Value 
       let never : false ≡ true = subst (λ q. IfOk q (λ answer. answer ≡ true)) is writes.there in
       cc
 
+  -- so the run ends without a message
+  pub none_shown : r ≡ Ok false → (value : Option Pattern) → Wrote value → (run_value asked bundle value).ending ≡ no_message asked.id
+  none_shown is value writes = ap (λ run. run.ending) (not_there value writes is).0
+
   module _ {T : Type 0} (r' : Result T WriteFault) (is : r ≡ Ok false) where
     pub puts_none : (value : Option Pattern) → Wrote value → Took r' (run_value asked bundle value).output (contents (writer_in out)) (contents (writer_in out'))
     puts_none value writes =
         let none = not_there value writes is in
         took_all r' _ _ _ (rw none.0 (rw none.1 (Appends-nil _)))
+
+    -- and no errors were added
+    pub adds_none : (value : Option Pattern) → Wrote value → Added r' (run_value asked bundle value).errors errors.items errors'.items
+    adds_none value writes =
+        let none = not_there value writes is in
+        rw none.0 (rw none.2 (added_by r' [] errors.items errors.items (sym (append-nil _))))

@@ -1,7 +1,7 @@
-use Rattle.std.proofs.Common.{ap, refl, sym, Some, ◌≡◌, ◌∙◌}
+use Rattle.std.proofs.Common.{ap, refl, subst, sym, Some, ◌≡◌, ◌∙◌}
 use Rattle.fluent_show_cli.specs.Runs.{reader_in}
 use Rattle.fluent_show_cli.specs.Program.{run_asked, first_asked}
-use Rattle.fluent_show_words.specs.Words.{plurals_asked}
+use Rattle.fluent_show_words.specs.Words.{plurals_asked, HasBadRule}
 use Rattle.fluent_show_words.specs.PluralsView.{plurals_view}
 use Rattle.fluent_show_words.specs.WordsView.{asked_view}
 use Rattle.fluent_show_cli.proofs.Coming.{ends_only, ends_of, ends_unruled, by_rules, first_by_rules, never_bad, read_for_rules, rule_or_memory, some_left}
@@ -54,3 +54,9 @@ returns-in-Err-clause-rule g c bad = rule_or_memory c.in-Err.fault _ c.from.ensu
 
 pub returns-in-Err-clause-reads : goal.returns-in-Err-clause-reads
 returns-in-Err-clause-reads g c = read_for_rules c.in-Err.fault _ _ _ c.from.ensures c.begin.ensures.state
+
+pub returns-in_default-clause-rule : goal.returns-in_default-clause-rule
+returns-in_default-clause-rule g c bad = absurd (subst HasBadRule (sym c.in_default.ensures) bad)
+
+pub returns-in_default-clause-untouched : goal.returns-in_default-clause-untouched
+returns-in_default-clause-untouched g c bad = absurd (subst HasBadRule (sym c.in_default.ensures) bad)

@@ -44,3 +44,9 @@ returns-in-Err-clause-ran g c =
             (reports_begun c.report.result (reported c.as_slice.result.now) ending c.in-Err.field-0 err err' c.in-Err.is not c.in-Err.ensures.prefix c.report.ensures.fault);
       },
     )
+
+pub returns-in-Ok-clause-bounded : goal.returns-in-Ok-clause-bounded
+returns-in-Ok-clause-bounded g c = c.attempt-ending.ensures.bounded
+
+pub returns-in-Err-clause-bounded : goal.returns-in-Err-clause-bounded
+returns-in-Err-clause-bounded g c = c.attempt-ending.ensures.bounded

@@ -1,4 +1,4 @@
-use Rattle.std.proofs.Common.{rules, ◌≡◌, ◌∷◌, [], false, is_ok, List, subst}
+use Rattle.std.proofs.Common.{◌≡◌, ◌∷◌, [], List, subst}
 use Rattle.std.specs.Result.{IfOk}
 use Rattle.std.specs.Cow.{cow_str_bytes}
 use Rattle.fluent_ast.specs.Tree.{Text, Entry}
@@ -13,6 +13,7 @@ use Rattle.fluent_show_words.specs.PluralsView.{plurals_view}
 use Rattle.fluent_show_cli.specs.Inside.BundleView.{bundle_view}
 use Rattle.fluent_show_cli.specs.Inside.OutputProgress.{Added}
 use Rattle.fluent_show_cli.proofs.Adding.{added_short, added_then}
+use Rattle.fluent_show_cli.proofs.Faults.{not_ok}
 use Rattle.fluent_show_cli.proofs.show.both_text.Goals as goal
 
 -- a run in two bundles, after what was found before
@@ -43,12 +44,12 @@ returns-clause-errors c =
 
 pub returns-in_err-second-clause-errors : goal.returns-in_err-second-clause-errors
 returns-in_err-second-clause-errors c =
-    let faulted : is_ok c.from_residual-in_err-second.result ≡ false = search rules in
+    let faulted = not_ok c.from_residual-in_err-second.result c.from_residual-in_err-second.ensures.0 in
     added_short c.bundle_of-2.result c.from_residual-in_err-second.result _ _ _ _ faulted
     (added_then c.bundle_of.result c.bundle_of-2.result _ _ _ _ _ _ c.in_ok-first.was c.bundle_of.ensures.errors c.bundle_of-2.ensures.errors)
 
 pub returns-in_err-first-clause-errors : goal.returns-in_err-first-clause-errors
 returns-in_err-first-clause-errors c =
-    let faulted : is_ok c.from_residual.result ≡ false = search rules in
+    let faulted = not_ok c.from_residual.result c.from_residual.ensures.0 in
     added_short c.from_residual.result c.from_residual.result _ _ _ _ faulted
     (added_short c.bundle_of.result c.from_residual.result _ _ _ _ faulted c.bundle_of.ensures.errors)

@@ -1,4 +1,4 @@
-use Rattle.std.proofs.Common.{rules, ◌≡◌, ◌∷◌, [], subst, map, None, List, Result, Global}
+use Rattle.std.proofs.Common.{rules, ◌≡◌, ◌∷◌, [], refl, subst, map, None, List, Result, Global}
 use Rattle.std.specs.declared.alloc.AllocError.{AllocError}
 use Rattle.std.specs.declared.borrow.CowStr.{CowStr}
 use Rattle.fluent_ast.specs.Tree.{Text}
@@ -7,6 +7,8 @@ use Rattle.fluent_semantics.specs.Value.{Value}
 use Rattle.fluent_fallback.specs.Chain.{first_with, pattern_asked, GivesOrId, bundles_of}
 use Rattle.fluent_show_cli.specs.Inside.BundleView.{args_view, bundle_view}
 use Rattle.fluent_show_cli.specs.Inside.Comes.{Bundle, Errors}
+use Rattle.fluent_show_cli.proofs.Adding.{added_nothing}
+use Rattle.fluent_show_cli.proofs.Faults.{not_ok}
 use Rattle.fluent_show_cli.proofs.Taking.{given_line}
 use Rattle.fluent_show_cli.proofs.show.chain_text.Goals as goal
 
@@ -25,3 +27,6 @@ returns-clause-errors c =
     let bundles : bundles_of c.new.result ≡ c.args.first.now ∷ c.args.second.now ∷ [] = search rules in
     let gives = subst (GivesOf c.args.request.id.now (args_view c.in_ok-args.args) c.format_value.result c.args.errors.now c.format_value.new.errors) bundles c.format_value.ensures.text in
     rw (← c.in_ok-args.ensures) (record { all = gives.whole.adds; prefix = gives.prefix })
+
+pub returns-in_err-args-clause-errors : goal.returns-in_err-args-clause-errors
+returns-in_err-args-clause-errors c = added_nothing c.from_residual.result _ c.args.errors.now.items _ (not_ok c.from_residual.result c.from_residual.ensures.0) refl

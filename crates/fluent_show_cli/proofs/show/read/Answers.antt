@@ -1,9 +1,10 @@
-use Rattle.std.proofs.Common.{rules, ◌≡◌, ◌∙◌, ap, map, List, ℕ, Err, alloc_error, is_ok, sym}
+use Rattle.std.proofs.Common.{◌≡◌, ◌∙◌, ap, map, List, ℕ, is_ok, refl, sym}
 use Rattle.std.proofs.lemmas.Simd.{map-map}
 use Rattle.fluent_syntax.specs.Parsed.{error_range}
 use Rattle.fluent_ast.specs.declared.errors.ParserError.{ParserError}
 use Rattle.fluent_show_cli.specs.Program.{error_at}
-use Rattle.fluent_show_cli.proofs.Adding.{recast}
+use Rattle.fluent_show_cli.proofs.Adding.{added_nothing, recast}
+use Rattle.fluent_show_cli.proofs.Faults.{not_ok}
 use Rattle.fluent_show_cli.proofs.show.read.Goals as goal
 
 -- the errors of the code are those of the ranges
@@ -12,10 +13,15 @@ of_ranges slice found ranges same e = ap (map (λ e. error_at (error_range e))) 
 
 pub returns-in_err-report_junk-clause-errors : goal.returns-in_err-report_junk-clause-errors
 returns-in_err-report_junk-clause-errors c =
-    let e : c.from_residual-in_err-report_junk.result ≡ Err alloc_error = search rules in
-    let same : is_ok c.from_residual-in_err-report_junk.result ≡ is_ok c.report_junk.result = rw (e, c.in_err-report_junk.was) in
-    recast _ _ _ _ _ _ same (of_ranges _ _ _ c.as_slice.ensures.value c.in_ok-resource.ensures.read.1) c.report_junk.ensures
+    let faulted = not_ok c.from_residual-in_err-report_junk.result c.from_residual-in_err-report_junk.ensures.0 in
+    recast _ _ _ _ _ _ (faulted ∙ sym (ap is_ok c.in_err-report_junk.was)) (of_ranges _ _ _ c.as_slice.ensures.value c.in_ok-resource.ensures.read.1) c.report_junk.ensures
 
 pub returns-clause-errors : goal.returns-clause-errors
 returns-clause-errors c =
     recast _ _ _ _ _ _ (sym (ap is_ok c.in_ok-report_junk.was)) (of_ranges _ _ _ c.as_slice.ensures.value c.in_ok-resource.ensures.read.1) c.report_junk.ensures
+
+pub returns-clause-entries : goal.returns-clause-entries
+returns-clause-entries c = c.in_ok-resource.ensures.read.0.1
+
+pub returns-in_err-resource-clause-errors : goal.returns-in_err-resource-clause-errors
+returns-in_err-resource-clause-errors c = added_nothing c.from_residual.result _ c.args.errors.now.items _ (not_ok c.from_residual.result c.from_residual.ensures.0) refl

@@ -1,4 +1,4 @@
-use Rattle.std.proofs.Common.{rules, ◌≡◌, ◌++◌, ◌⊎◌, refl, false, is_ok, List, Err, subst}
+use Rattle.std.proofs.Common.{◌≡◌, ◌++◌, ◌⊎◌, refl, List, Err, IfOk, subst}
 use Rattle.std.specs.Result.{IfErr}
 use Rattle.fluent_ast.specs.Tree.{Text, Entry}
 use Rattle.fluent_syntax.specs.Chunks.{entries}
@@ -11,12 +11,14 @@ use Rattle.fluent_resolver_state.specs.Status.{reported}
 use Rattle.fluent_bundle.specs.BundleView.{value_at}
 use Rattle.fluent_resource.specs.ResourceView.{entries_of}
 use Rattle.fluent_show_cli.specs.Program.{Run, adding_errors, after_errors, bundle_of, in_pieces, junk_errors, run_alone, run_entries, run_value}
+use Rattle.fluent_show_cli.specs.Runs.{ending_view}
 use Rattle.fluent_show_words.specs.Words.{Asked}
 use Rattle.fluent_show_words.specs.WordsView.{asked_view}
 use Rattle.fluent_show_words.specs.PluralsView.{plurals_view}
 use Rattle.fluent_show_cli.specs.Inside.BundleView.{bundle_view}
 use Rattle.fluent_show_cli.specs.Inside.OutputProgress.{Added, Stops, Took, TookPart}
 use Rattle.fluent_show_cli.proofs.Adding.{added_short, added_then, adds_then, whole_added}
+use Rattle.fluent_show_cli.proofs.Faults.{counts_none, not_ok, passed, took_none}
 use Rattle.fluent_show_cli.proofs.Stopping.{stops_before, stops_later}
 use Rattle.fluent_show_cli.proofs.show.show_alone.Goals as goal
 
@@ -65,9 +67,24 @@ returns-clause-stops g c =
     c.in_ok-resource.ensures.entries c.in_ok-bundle.ensures.bundle
     (stops_later c.show_value.result _ _ _ _ _ _ _ _ c.requires before c.show_value.ensures.errors c.show_value.ensures.stops)
 
+pub returns-clause-ending : goal.returns-clause-ending
+returns-clause-ending g c =
+    of_source (λ run found. IfOk c.show_value.result (λ ending. ending_view ending ≡ run.ending))
+    (asked_view c.args.task.request) (plurals_view c.args.task.plurals) c.args.source.now (entries_of c.in_ok-resource.resource) (bundle_view c.in_ok-bundle.bundle)
+    c.in_ok-resource.ensures.entries c.in_ok-bundle.ensures.bundle c.show_value.ensures.ending
+
+pub returns-clause-fault : goal.returns-clause-fault
+returns-clause-fault g c = c.show_value.ensures.fault
+
+pub returns-in_err-bundle-clause-text : goal.returns-in_err-bundle-clause-text
+returns-in_err-bundle-clause-text g c = took_none c.from_residual-in_err-bundle.result _ _ c.from_residual-in_err-bundle.ensures.0
+
+pub returns-in_err-bundle-clause-fault : goal.returns-in_err-bundle-clause-fault
+returns-in_err-bundle-clause-fault g c = counts_none c.from_residual-in_err-bundle.result c.args.out.now (passed _ Memory c.from_residual-in_err-bundle.ensures.1)
+
 pub returns-in_err-bundle-clause-errors : goal.returns-in_err-bundle-clause-errors
 returns-in_err-bundle-clause-errors g c =
-    let faulted : is_ok c.from_residual-in_err-bundle.result ≡ false = search rules in
+    let faulted = not_ok c.from_residual-in_err-bundle.result c.from_residual-in_err-bundle.ensures.0 in
     let asked = asked_view c.args.task.request in
     let plurals = plurals_view c.args.task.plurals in
     let of = bundle_of plurals asked.options.isolate (entries_of c.in_ok-resource.resource) in
@@ -77,7 +94,17 @@ returns-in_err-bundle-clause-errors g c =
     (added_short c.bundle_of.result c.from_residual-in_err-bundle.result _ _ _ _ faulted c.bundle_of.ensures.errors))
 
 pub returns-in_err-bundle-clause-stops : goal.returns-in_err-bundle-clause-stops
-returns-in_err-bundle-clause-stops g c = stops_before c.from_residual-in_err-bundle.result _ _ _ _ _ (search rules) refl
+returns-in_err-bundle-clause-stops g c = stops_before c.from_residual-in_err-bundle.result _ _ _ _ _ (passed _ Memory c.from_residual-in_err-bundle.ensures.1) refl
 
 pub returns-in_err-resource-clause-stops : goal.returns-in_err-resource-clause-stops
-returns-in_err-resource-clause-stops g c = stops_before c.from_residual.result _ _ _ _ _ (search rules) refl
+returns-in_err-resource-clause-stops g c = stops_before c.from_residual.result _ _ _ _ _ (passed _ Memory c.from_residual.ensures.1) refl
+
+pub returns-in_err-resource-clause-text : goal.returns-in_err-resource-clause-text
+returns-in_err-resource-clause-text g c = took_none c.from_residual.result _ _ c.from_residual.ensures.0
+
+pub returns-in_err-resource-clause-errors : goal.returns-in_err-resource-clause-errors
+returns-in_err-resource-clause-errors g c =
+    added_short c.read.result c.from_residual.result _ _ _ _ (not_ok c.from_residual.result c.from_residual.ensures.0) c.read.ensures.errors
+
+pub returns-in_err-resource-clause-fault : goal.returns-in_err-resource-clause-fault
+returns-in_err-resource-clause-fault g c = counts_none c.from_residual.result c.args.out.now (passed _ Memory c.from_residual.ensures.1)

@@ -18,6 +18,3 @@ returns-in-None-clause-finds g c = gives_nothing _ _ _ c.in-None.ensures.content
 
 pub returns-in-None-clause-borrowed : goal.returns-in-None-clause-borrowed
 returns-in-None-clause-borrowed g c = borrows_nothing c.args.self.now c.in-None.ensures.content
-
-pub format_linked-requires : goal.format_linked-requires
-format_linked-requires g c = c.in-Some.ensures.stored.placed

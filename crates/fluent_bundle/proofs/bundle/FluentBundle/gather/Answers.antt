@@ -1,8 +1,10 @@
 use Rattle.std.proofs.Common.{◌≡◌, sym, ap, subst, ◌∙◌, ◌++◌, append-nil}
+use Rattle.std.proofs.lemmas.Result.{IfOk-from_err}
 use Rattle.std.specs.Option.{option_map}
 use Rattle.fluent_ast.specs.Tree.{Text}
 use Rattle.fluent_ast.specs.View.{pattern_view}
 use Rattle.fluent_semantics.specs.Bundle.{transform_of}
+use Rattle.fluent_semantics.specs.Result.{written_pattern}
 use Rattle.fluent_bundle_entries.specs.Texts.{texts_of}
 use Rattle.fluent_resolver_state.specs.Status.{arguments_view, reported}
 use Rattle.fluent_bundle.specs.BundleView.{meant, transform_in}
@@ -41,3 +43,36 @@ returns-then-writes_texts_alone-clause-errors g c =
 
 pub returns-then-writes_texts_alone-clause-prefix : goal.returns-then-writes_texts_alone-clause-prefix
 returns-then-writes_texts_alone-clause-prefix g c = no_prefix_added _ _
+
+pub returns-in_err-text-clause-text : goal.returns-in_err-text-clause-text
+returns-in_err-text-clause-text g c = IfOk-from_err c.from_residual.result _ c.from_residual.ensures.0
+
+pub returns-in_err-text-clause-errors : goal.returns-in_err-text-clause-errors
+returns-in_err-text-clause-errors g c = IfOk-from_err c.from_residual.result _ c.from_residual.ensures.0
+
+pub returns-in_err-push_texts-clause-text : goal.returns-in_err-push_texts-clause-text
+returns-in_err-push_texts-clause-text g c = IfOk-from_err c.from_residual-in_err-push_texts.result _ c.from_residual-in_err-push_texts.ensures.0
+
+pub returns-in_err-push_texts-clause-errors : goal.returns-in_err-push_texts-clause-errors
+returns-in_err-push_texts-clause-errors g c = IfOk-from_err c.from_residual-in_err-push_texts.result _ c.from_residual-in_err-push_texts.ensures.0
+
+pub returns-in-Ok-clause-text : goal.returns-in-Ok-clause-text
+returns-in-Ok-clause-text g c =
+    let b = meant g.M.MemoizerKind.category g.C.FluentType.shown g.C.FluentType.alike g.F.FluentFunction.answer g.G.FluentFormatter.formatted g.T.Transform.changed c.args.self.now in
+    let all = (written_pattern b (arguments_view g.C.FluentType.content c.args.args) (pattern_view c.args.pattern.now)).value in
+    c.in-Ok.ensures.text ∙ ap (λ t. t ++ all) c.in_ok-text.ensures.bytes
+
+pub returns-in-Ok-clause-errors : goal.returns-in-Ok-clause-errors
+returns-in-Ok-clause-errors g c = c.in-Ok.ensures.errors
+
+pub returns-in-Ok-clause-prefix : goal.returns-in-Ok-clause-prefix
+returns-in-Ok-clause-prefix g c = c.in-Ok.ensures.prefix
+
+pub returns-in-Err-clause-text : goal.returns-in-Err-clause-text
+returns-in-Err-clause-text g c = tt
+
+pub returns-in-Err-clause-errors : goal.returns-in-Err-clause-errors
+returns-in-Err-clause-errors g c = tt
+
+pub returns-in-Err-clause-prefix : goal.returns-in-Err-clause-prefix
+returns-in-Err-clause-prefix g c = c.in-Err.ensures.prefix

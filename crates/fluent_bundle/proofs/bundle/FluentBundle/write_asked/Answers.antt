@@ -19,6 +19,3 @@ returns-in-None-clause-writes g c = writes_nothing _ _ _ _ _ c.in-None.ensures.c
 
 pub returns-in-None-clause-memory : goal.returns-in-None-clause-memory
 returns-in-None-clause-memory g c = free_nothing c.args.self.now c.in-None.ensures.content
-
-pub write_linked-requires : goal.write_linked-requires
-write_linked-requires g c = c.in-Some.ensures.stored.placed

@@ -72,3 +72,9 @@ returns-clause-fault g c = counts_told _ _ _ _ c.with_error.result (rw c.with_er
 
 pub returns-clause-memory : goal.returns-clause-memory
 returns-clause-memory g c = λ texts bare. absurd (never_alone (transform_in c.args.self.now) (pattern_view c.args.pattern.now) (sym c.writes_texts_alone.ensures ∙ c.if-writes_texts_alone.false) texts bare)
+
+pub returns-in-Some-clause-memory : goal.returns-in-Some-clause-memory
+returns-in-Some-clause-memory g c = λ texts bare. c.put.ensures.memory
+
+pub returns-then-writes_texts_alone-clause-memory : goal.returns-then-writes_texts_alone-clause-memory
+returns-then-writes_texts_alone-clause-memory g c = λ texts bare. c.write_texts.ensures.memory

@@ -26,10 +26,13 @@ returns-in-None g c =
     let kept = c.write_whole-written.ensures.did.happened.stays.list in
     absurd (never_none (λ e. e.ghost_name) (state_parts c.write_whole-written.new.scope).errors _ (sym c.into_errors.ensures ∙ c.in-None.is) (kept ∙ ap (option_map (λ e. e.ghost_name)) c.new-state.ensures.errors))
 
-pub write_whole-written-requires : goal.write_whole-written-requires
+pub write_whole-written-requires-clause-idle : goal.write_whole-written-requires-clause-idle
 unfolding bundle_parts state_parts
-write_whole-written-requires g c = record {
-  idle = c.new-state.ensures.idle;
-  kept = c.requires.unkept;
-  placed = subst (λ m. IsPlaced m (references (pattern_view c.args.pattern.now)) c.args.cursor) (sym c.new-state.ensures.ids) c.requires.placed;
-}
+write_whole-written-requires-clause-idle g c = c.new-state.ensures.idle
+
+pub write_whole-written-requires-clause-kept : goal.write_whole-written-requires-clause-kept
+write_whole-written-requires-clause-kept g c = c.requires.unkept
+
+pub write_whole-written-requires-clause-placed : goal.write_whole-written-requires-clause-placed
+unfolding bundle_parts state_parts
+write_whole-written-requires-clause-placed g c = subst (λ m. IsPlaced m (references (pattern_view c.args.pattern.now)) c.args.cursor) (sym c.new-state.ensures.ids) c.requires.placed

@@ -1,7 +1,8 @@
-use Rattle.std.proofs.Common.{rules, arith, ◌≡◌, ◌∙◌, sym, ap, refl, false, is_ok, Ok}
+use Rattle.std.proofs.Common.{◌∙◌, ◌≤◌, sym, ap, subst, refl, Ok}
+use Rattle.std.specs.declared.borrow.CowStr.TheVariants.{Borrowed}
 use Rattle.fluent_bundle.specs.BundleView.{meant}
-use Rattle.fluent_fallback.specs.Chain.{pattern_asked, bundles_of}
-use Rattle.fluent_fallback.proofs.First.{none_left, passes, passes_end}
+use Rattle.fluent_fallback.specs.Chain.{pattern_asked, bundles_of, BorrowsOrId}
+use Rattle.fluent_fallback.proofs.First.{none_left, not_ok, passes, passes_end}
 use Rattle.fluent_fallback.proofs.Answered.{gives_here, gives_id, gives_nothing, gives_refused, borrows_here, borrows_failed}
 use Rattle.fluent_fallback.proofs.chain.Chain.format.Goals as goal
 use Rattle.fluent_fallback.proofs.chain.Chain.format.Goals.{in-Some+in_ok-text+in_default-2, in_default}
@@ -10,7 +11,7 @@ pub returns-in_err-text-clause-text : goal.returns-in_err-text-clause-text
 returns-in_err-text-clause-text g c =
     let of = meant g.M.MemoizerKind.category g.C.FluentType.shown g.C.FluentType.alike g.F.FluentFunction.answer g.G.FluentFormatter.formatted g.T.Transform.changed in
     let has = pattern_asked c.args.id.now c.args.attribute in
-    let faulted : is_ok c.from_residual.result ≡ false = search rules in
+    let faulted = not_ok c.from_residual.result c.from_residual.ensures.0 in
     gives_refused of has _ (bundles_of c.args.self.now) c.loop-index.index c.in-Some.bundle.now (sym c.in-Some.ensures) c.loop-index.invariant.first
     c.args.id.now _ refl c.format_in.result _ c.from_residual.result _ _ _ c.loop-index.invariant.errors c.in_err-text.was faulted c.format_in.ensures.text
 
@@ -18,7 +19,7 @@ pub returns-in_err-text-clause-borrowed : goal.returns-in_err-text-clause-borrow
 returns-in_err-text-clause-borrowed g c =
     let of = meant g.M.MemoizerKind.category g.C.FluentType.shown g.C.FluentType.alike g.F.FluentFunction.answer g.G.FluentFormatter.formatted g.T.Transform.changed in
     let has = pattern_asked c.args.id.now c.args.attribute in
-    let faulted : is_ok c.from_residual.result ≡ false = search rules in
+    let faulted = not_ok c.from_residual.result c.from_residual.ensures.0 in
     borrows_failed of has _ (bundles_of c.args.self.now) c.loop-index.index c.in-Some.bundle.now (sym c.in-Some.ensures) c.loop-index.invariant.first
     c.args.id.now _ refl c.format_in.result _ c.from_residual.result _ _ c.in_err-text.was faulted c.format_in.ensures.text c.format_in.ensures.borrowed
 
@@ -49,7 +50,7 @@ loop-index-preserved g c =
             errors = w.errors-is ∙ none.1 ∙ c.loop-index.invariant.errors;
           }
       | in_default w ↦ record {
-        first = passes_end (λ b. has (of b)) (bundles_of c.args.self.now) c.loop-index.index first (search rules);
+        first = passes_end (λ b. has (of b)) (bundles_of c.args.self.now) c.loop-index.index first (sym w.in_default.ensures);
         errors = w.errors-is ∙ c.loop-index.invariant.errors;
       }
     ]
@@ -59,5 +60,16 @@ returns-clause-text g c =
     let of = meant g.M.MemoizerKind.category g.C.FluentType.shown g.C.FluentType.alike g.F.FluentFunction.answer g.G.FluentFormatter.formatted g.T.Transform.changed in
     let has = pattern_asked c.args.id.now c.args.attribute in
     gives_id of has _ (bundles_of c.args.self.now)
-    (none_left (λ b. has (of b)) (bundles_of c.args.self.now) c.loop-index.index c.loop-index.invariant.first (omega (arith, c.loop-index-test.false, c.len-index-end.ensures)))
+    (none_left (λ b. has (of b)) (bundles_of c.args.self.now) c.loop-index.index c.loop-index.invariant.first (subst (λ n. n ≤ c.loop-index.index) c.len-index-end.ensures c.loop-index-test.false))
     _ _ _ c.loop-index.invariant.errors
+
+pub loop-index-init : goal.loop-index-init
+loop-index-init g c = record { first = refl; errors = refl }
+
+pub returns-clause-borrowed : goal.returns-clause-borrowed
+returns-clause-borrowed g c =
+    let of = meant g.M.MemoizerKind.category g.C.FluentType.shown g.C.FluentType.alike g.F.FluentFunction.answer g.G.FluentFormatter.formatted g.T.Transform.changed in
+    let has = pattern_asked c.args.id.now c.args.attribute in
+    subst (λ f. BorrowsOrId c.args.id.now f (Ok (Borrowed c.args.id)))
+    (none_left (λ b. has (of b)) (bundles_of c.args.self.now) c.loop-index.index c.loop-index.invariant.first (subst (λ n. n ≤ c.loop-index.index) c.len-index-end.ensures c.loop-index-test.false))
+    refl
